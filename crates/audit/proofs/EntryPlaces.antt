@@ -1,12 +1,12 @@
 -- Entries at their places, in the order of the rows and in order of time.
-use Rattle.std.proofs.Common.{◌≡◌, ◌<◌, false, is_lt, drop, ◌+◌, ℕ, zero, suc, List, [], ◌∷◌, ◌++◌, map, length, take, get_or, slice_get, Option, Some, None, unwrap_or, IfSome, IsSome, refl, sym, ap, ap₂, ◌∙◌, subst, arith}
-use Rattle.std.specs.List.{All}
+use Rattle.std.proofs.Common.{◌≡◌, ◌<◌, false, is_lt, drop, ◌+◌, ℕ, zero, suc, List, [], ◌∷◌, ◌++◌, map, length, get_or, slice_get, Option, Some, None, unwrap_or, IfSome, IsSome, refl, sym, ap, ap₂, ◌∙◌, subst, arith, zero-add}
+use Rattle.std.specs.List.{All, enumerate_from}
 use Rattle.std.specs.List.Sorted.{IsPermutation, IsSortedByKey}
 use Rattle.std.specs.Option.{option_map}
 use Rattle.std.specs.Ordering.{nat_cmp}
-use Rattle.std.proofs.lemmas.List.{take_more, map-append, get_or-map, length-map}
-use Rattle.std.proofs.lemmas.List.Elements.{All-nil, All-cons, All-head, All-tail, All-push}
-use Rattle.std.proofs.lemmas.Option.{slice_get-map, slice_get_within, get_or_from_slice_get}
+use Rattle.std.proofs.lemmas.List.{map-append, get_or-map, length-map}
+use Rattle.std.proofs.lemmas.List.Elements.{All-nil, All-cons, All-head, All-tail, All-append}
+use Rattle.std.proofs.lemmas.Option.{slice_get-map, slice_get_within}
 use Rattle.std.proofs.lemmas.List.Sorted.{All-permutation, IsPermutation-map, IsPermutation-sym, IsPermutation-trans, length_permutation}
 use Rattle.running.specs.declared.entry.Entry.{Entry}
 use Rattle.running.specs.declared.entry.Entry.TheVariants.{Opened, Moved}
@@ -14,36 +14,41 @@ use Rattle.running.specs.Entries.{time_of}
 use Rattle.rows.specs.TypedRows.{TypedRows}
 use Rattle.audit.specs.declared.entries.EntryPlace.{EntryPlace}
 use Rattle.audit.specs.declared.entries.RowPlace.{RowPlace}
-use Rattle.audit.specs.Held.{entry_at, IsTimed, ArePlacesOf}
+use Rattle.audit.specs.declared.entries.RowPlace.TheVariants.{Account, Transfer}
+use Rattle.audit.specs.declared.told.Told.{Told}
+use Rattle.audit.specs.Held.{Holds, entry_at, IsTimed, places_of, ArePlacesOf}
 use Rattle.audit.specs.Laws.{OneOrder}
 use Rattle.audit.specs.Order.{in_order}
 use Rattle.audit.specs.Table.{IsBadTime}
-use Rattle.audit.specs.Told.{entries_told}
+use Rattle.audit.specs.Told.{account_times, transfer_times, entries_told}
 use Rattle.audit.proofs.EntriesApart.{entries_apart}
 use Rattle.audit.proofs.InOrderLemmas.{in_order_same, in_order_up}
 
--- one place more
-one_place : (typed : TypedRows) (entries : List Entry) (places : List EntryPlace) (k : ℕ) (p : EntryPlace) (e : Entry) → slice_get entries k ≡ Some e → entry_at typed p.row ≡ Some e → p.time ≡ time_of e → ArePlacesOf typed (take k entries) places → ArePlacesOf typed (take (k + 1) entries) (places ++ p ∷ [])
-one_place typed entries places k p e is at time so_far =
-    let f = λ (q : EntryPlace). entry_at typed q.row in
-    let more : take (k + 1) entries ≡ take k entries ++ e ∷ [] =
-    take_more entries k e (slice_get_within entries k e is) ∙ ap (λ (x : Entry). take k entries ++ x ∷ []) (get_or_from_slice_get entries k e e is) in
+-- the rows of a table from a place on stand there
+from_place : {A : Type 0} (make : A → Entry) (stamp : A → ℕ) → ((a : A) → stamp a ≡ time_of (make a)) → (typed : TypedRows) (row : ℕ → RowPlace) (rows : List A) (n : ℕ) → ((k : ℕ) → entry_at typed (row (n + k)) ≡ option_map make (slice_get rows k)) → ArePlacesOf typed (map make rows) (map (λ it. record { time = it.1; row = row it.0 }) (enumerate_from n (map stamp rows)))
+from_place make stamp stamped typed row [] n there = record { there = refl; timed = All-nil (IsTimed typed) }
+from_place make stamp stamped typed row (a ∷ rows) n there =
+    let none : n + 0 ≡ n = omega arith in
+    let at : entry_at typed (row n) ≡ Some (make a) = subst (λ (i : ℕ). entry_at typed (row i) ≡ Some (make a)) none (there 0) in
+    let rest = from_place make stamp stamped typed row rows (n + 1) (λ k.
+    let next : n + suc k ≡ n + 1 + k = omega arith in subst (λ (i : ℕ). entry_at typed (row i) ≡ option_map make (slice_get rows k)) next (there (suc k))) in
     record {
-      there = map-append f places (p ∷ []) ∙ ap₂ (λ xs o. xs ++ o ∷ []) so_far.there at ∙ sym (map-append Some (take k entries) (e ∷ [])) ∙ ap (map Some) (sym more);
-      timed = All-push (IsTimed typed) places p so_far.timed (subst (λ (o : Option Entry). IfSome o (λ x. p.time ≡ time_of x)) (sym at) time);
+      there = ap₂ (λ o os. o ∷ os) at rest.there;
+      timed = All-cons (IsTimed typed) (record { time = stamp a; row = row n }) _ (subst (λ (o : Option Entry). IfSome o (λ e. stamp a ≡ time_of e)) (sym at) (stamped a)) rest.timed;
     }
 
--- the row at a place, by its timestamp
-row_with : {A : Type 0} (stamp : A → ℕ) (time : ℕ) (found : Option A) → option_map stamp found ≡ Some time → (a : A) × (found ≡ Some a) × (stamp a ≡ time)
-row_with stamp time None is = absurd cc
-row_with stamp time (Some a) is = (a, refl, cc)
-
-pub one_row : {A : Type 0} (make : A → Entry) (stamp : A → ℕ) → ((a : A) → stamp a ≡ time_of (make a)) → (typed : TypedRows) (rows : List A) (times : List ℕ) (places more : List EntryPlace) (k time : ℕ) (row : RowPlace) → entry_at typed row ≡ option_map make (slice_get rows k) → more ≡ places ++ record { time = time; row = row } ∷ [] → slice_get times k ≡ Some time → times ≡ map stamp rows → ArePlacesOf typed (take k (map make rows)) places → ArePlacesOf typed (take (k + 1) (map make rows)) more
-one_row make stamp stamped typed rows times places more k time row there pushed here same so_far =
-    let found = row_with stamp time (slice_get rows k) (sym (slice_get-map stamp rows k) ∙ ap (λ (ts : List ℕ). slice_get ts k) (sym same) ∙ here) in
-    let at = ap (option_map make) found.1 in
-    subst (ArePlacesOf typed (take (k + 1) (map make rows))) (sym pushed)
-    (one_place typed (map make rows) places k (record { time = time; row = row }) (make found.0) (slice_get-map make rows k ∙ at) (there ∙ at) (sym found.2 ∙ stamped found.0) so_far)
+-- those of all accounts, and then of all transfers
+pub stored_places : (typed : TypedRows) (told : Told) (places : List EntryPlace) → Holds told typed → places ≡ places_of Account told.account_times.items ++ places_of Transfer told.transfer_times.items → ArePlacesOf typed (map Opened typed.accounts ++ map Moved typed.transfers) places
+stored_places typed told places holds same =
+    let f = λ (p : EntryPlace). entry_at typed p.row in
+    let before = places_of Account (account_times typed) in
+    let behind = places_of Transfer (transfer_times typed) in
+    let accounts = from_place Opened (λ a. a.timestamp) (λ a. refl) typed Account typed.accounts 0 (λ k. ap (λ (i : ℕ). entry_at typed (Account i)) (zero-add k)) in
+    let transfers = from_place Moved (λ t. t.timestamp) (λ t. refl) typed Transfer typed.transfers 0 (λ k. ap (λ (i : ℕ). entry_at typed (Transfer i)) (zero-add k)) in
+    subst (ArePlacesOf typed (map Opened typed.accounts ++ map Moved typed.transfers)) (sym (same ∙ ap₂ (λ xs ys. places_of Account xs ++ places_of Transfer ys) holds.accounts holds.transfers)) (record {
+      there = map-append f before behind ∙ ap₂ ◌++◌ accounts.there transfers.there ∙ sym (map-append Some (map Opened typed.accounts) (map Moved typed.transfers));
+      timed = All-append (IsTimed typed) before behind accounts.timed transfers.timed;
+    })
 
 -- the same places in another order are those of the same entries in another order
 abbrev IsSomeEntry : Option Entry → Type 0

@@ -17,45 +17,13 @@ use Rattle.rows.specs.Prescribed.{rows_for}
 use Rattle.rows.specs.Tables.{history_key}
 use Rattle.rows.specs.TypedRows.{TypedRows}
 use Rattle.running.specs.declared.entry.Entry.TheVariants.{Opened, Moved}
+use Rattle.samples.specs.Events.{accepted_transfer, opened_account as account, balances as sums}
 use Rattle.audit.specs.Order.{in_order, Differ}
 use Rattle.audit.specs.Table.{IsBadTime, IsBadFailed}
 use Rattle.audit.specs.Told.{entries_told, machine_told, prescribed}
 
-abbrev account : ℕ → ℕ → ℕ → Account
-account id flags timestamp = record {
-  id = id;
-  user_data_128 = 0;
-  user_data_64 = 0;
-  user_data_32 = 0;
-  ledger = 7;
-  code = 10;
-  flags = record { 0 = flags };
-  timestamp = timestamp;
-}
-
 abbrev transfer : ℕ → ℕ → ℕ → ℕ → ℕ → Transfer
-transfer id pending amount flags timestamp = record {
-  id = id;
-  debit_account_id = 1;
-  credit_account_id = 2;
-  amount = amount;
-  pending_id = pending;
-  user_data_128 = 0;
-  user_data_64 = 0;
-  user_data_32 = 0;
-  timeout = 0;
-  ledger = 7;
-  code = 1;
-  flags = record { 0 = flags };
-  timestamp = timestamp;
-  at = 7;
-}
-
-abbrev sums : ℕ → ℕ → ℕ → ℕ → Balances
-sums dp dd cp cc = record {
-  debits = record { pending = dp; posted = dd };
-  credits = record { pending = cp; posted = cc };
-}
+transfer id pending amount flags timestamp = accepted_transfer id pending amount flags timestamp 7
 
 abbrev balance : ℕ → Balances → BalanceRow
 balance account balances = record { account = account; balances = balances }

@@ -1,5 +1,6 @@
 -- What is held of a tenant's rows: their times, and where their entries stand.
-use Rattle.std.specs.Prelude.{◌≡◌, All, List, map, Option, Some, IfSome, slice_get}
+use Rattle.std.specs.Prelude.{◌≡◌, ℕ, All, List, map, Option, Some, IfSome, slice_get}
+use Rattle.std.specs.List.{enumerate_from}
 use Rattle.std.specs.Option.{option_map}
 use Rattle.rows.specs.TypedRows.{TypedRows, FileRows}
 use Rattle.running.specs.declared.entry.Entry.{Entry}
@@ -30,6 +31,11 @@ entry_at rows (Transfer place) = option_map Moved (slice_get rows.transfers plac
 -- its timestamp is kept beside its place
 abbrev pub IsTimed : TypedRows → EntryPlace → Type 0
 IsTimed rows place = IfSome (entry_at rows place.row) (λ entry. place.time ≡ time_of entry)
+
+-- the places of a table's rows with these timestamps
+abbrev pub places_of : (ℕ → RowPlace) → List ℕ → List EntryPlace
+places_of row times =
+    map (λ it. record { time = it.1; row = row it.0 }) (enumerate_from 0 times)
 
 -- these entries stand at these places
 pub record ArePlacesOf

@@ -1,12 +1,12 @@
 //! Where a tenant's entries stand, in order of time.
 
-ghost use Rattle.std.specs.Prelude.{◌≡◌, ℕ, ◌++◌, map, IfOk, IsPermutation};
+ghost use Rattle.std.specs.Prelude.{◌≡◌, ℕ, ◌++◌, IfOk, IsPermutation};
 ghost use Rattle.std.specs.Ordering.{nat_cmp};
 ghost use Rattle.std.specs.List.Sorted.{IsSortedByKey};
 ghost use Rattle.rows.specs.TypedRows.{TypedRows};
-ghost use Rattle.running.specs.declared.entry.Entry.TheVariants.{Opened, Moved};
-ghost use Rattle.audit.specs.Held.{Holds, ArePlacesOf};
-ghost use Rattle.audit.specs.Told.{account_times, transfer_times, entries_told};
+ghost use Rattle.audit.specs.declared.entries.RowPlace.TheVariants.{Account, Transfer};
+ghost use Rattle.audit.specs.Held.{Holds, ArePlacesOf, places_of};
+ghost use Rattle.audit.specs.Told.{entries_told};
 ghost use Rattle.audit.specs.Table.{IsBadTime};
 
 use crate::told::Told;
@@ -45,46 +45,21 @@ pub(crate) fn places(alloc: Global, told: &Told) -> Result<Vec<EntryPlace>, Allo
 // Those of the accounts, and then of the transfers.
 fn as_stored(alloc: Global, told: &Told) -> Result<Vec<EntryPlace>, AllocError>
     ensures { IfOk result
-        (λ places. (typed : TypedRows) →
-        Holds told.now typed →
-        ArePlacesOf typed (map Opened typed.accounts ++ map Moved typed.transfers)
-        places.items) }
+        (λ places. places.items ≡ places_of Account told.now.account_times.items
+        ++ places_of Transfer told.now.transfer_times.items) }
 {
-    let mut places = of_accounts(alloc, &told.account_times)?;
-    places.extend_from_slice(&of_transfers(alloc, &told.transfer_times)?)?;
-    Ok(places)
-}
-
-fn of_accounts(alloc: Global, times: &[u64]) -> Result<Vec<EntryPlace>, AllocError>
-    ensures { IfOk result
-        (λ places. (typed : TypedRows) →
-        times.now ≡ account_times typed →
-        ArePlacesOf typed (map Opened typed.accounts) places.items) }
-{
-    let mut places = Vec::new(alloc);
-    for (place, time) in times.iter().enumerate() {
-        places.push(EntryPlace {
-            time: *time,
+    let account_times = told.account_times.iter().copied().enumerate();
+    let transfer_times = told.transfer_times.iter().copied().enumerate();
+    account_times
+        .map(|(place, time)| EntryPlace {
+            time,
             row: RowPlace::Account(place),
-        })?;
-    }
-    Ok(places)
-}
-
-fn of_transfers(alloc: Global, times: &[u64]) -> Result<Vec<EntryPlace>, AllocError>
-    ensures { IfOk result
-        (λ places. (typed : TypedRows) →
-        times.now ≡ transfer_times typed →
-        ArePlacesOf typed (map Moved typed.transfers) places.items) }
-{
-    let mut places = Vec::new(alloc);
-    for (place, time) in times.iter().enumerate() {
-        places.push(EntryPlace {
-            time: *time,
+        })
+        .chain(transfer_times.map(|(place, time)| EntryPlace {
+            time,
             row: RowPlace::Transfer(place),
-        })?;
-    }
-    Ok(places)
+        }))
+        .collect(alloc)
 }
 
 fn sort(places: &mut [EntryPlace])

@@ -102,9 +102,13 @@ fn find_behind(
     let mut running = running;
     let came = settle_if_it_can(&mut running, told.clock)?;
     let bad_failed = first_bad_failed(version, &told.failed, &running);
-    let in_tables = find_in_tables(alloc, version, rows, told, running, meeting)?;
-    if let Some(found) = in_tables {
+    let in_sums = find_in_sums(alloc, version, rows, running)?;
+    if let Some(found) = in_sums {
         return Ok(Some(found));
+    }
+    let history = first_bad_history(alloc, version, rows, told, meeting)?;
+    if let Some(place) = history {
+        return Ok(damage_at(DamageKind::History, place));
     }
     if !came {
         return Ok(damage_at(DamageKind::Clock, 0));
@@ -115,35 +119,7 @@ fn find_behind(
     }
 }
 
-// In the rows that the machine prescribes.
-fn find_in_tables(
-    alloc: Global,
-    version: u32,
-    rows: &TenantRows,
-    told: &Told,
-    running: Running,
-    meeting: &Meeting,
-) -> Result<Option<Found>, AllocError>
-    requires running { (typed : TypedRows)
-        × TellsRows (lists_of rows.now) typed
-        × Holds told.now typed
-        × IsRunning (machine_told typed) running
-        × HasMet (lists_of rows.now) typed meeting.now }
-    requires clear { IsClearBelow version (lists_of rows.now) 4 }
-    ensures { IfOk result (FindsBelow version (lists_of rows.now) 7) }
-{
-    let in_sums = find_in_sums(alloc, version, rows, running)?;
-    if let Some(found) = in_sums {
-        return Ok(Some(found));
-    }
-    let history = first_bad_history(alloc, version, rows, told, meeting)?;
-    match history {
-        Some(place) => Ok(damage_at(DamageKind::History, place)),
-        None => Ok(None),
-    }
-}
-
-// In those of balances and of statuses. The machine is let go.
+// In the rows of balances and of statuses. The machine is let go.
 fn find_in_sums(
     alloc: Global,
     version: u32,

@@ -17,16 +17,15 @@ use Rattle.chain.specs.LedgerReads.{IsShown, IsTold, ReadsOnly, ReadsTenant, See
 use Rattle.chain.specs.Ledgers.{Tenants, LedgersMeaning, KeepsAll, KeepsOthers, IsDone, IsRun, Finds, IsAnswered, LeadsBy}
 use Rattle.records.specs.Reads.{AccountAnswer, Found}
 use Rattle.chain.specs.declared.reading.AccountFault.{AccountFault}
-use Rattle.chain.specs.Looks.{Answers, Shows, account_answer, answer_of, read_answer}
+use Rattle.chain.specs.Looks.{Answers, LeavesSame, Shows, account_answer, answer_of, read_answer}
 use Rattle.chain.specs.Tables.{Meaning, State}
+use Rattle.chain.proofs.TableCalls.{Joins, looks_in_turn}
 use Rattle.engine.proofs.ValidMachineLemmas.{found_key}
 
 -- the first of some ids are looked up, and the tables are as before
 pub record HasLooked {S A : Type 0} (t : Meaning S) (look : Machine → ℕ → Option A) (ids : List ℕ)
     (count : ℕ) (old new : S) (found : List A) : Type 0 where
-  pub same : t.is_live new → t.state new ≡ t.state old
-  pub usable : t.is_usable new
-  pub follows : t.follows old new
+  pub leaves : LeavesSame t old new (Ok (tt {0}))
   pub found_is : t.is_live new → found ≡ filter_map (look (t.state old).now) (take count ids)
 
 -- what one more id gives
@@ -64,22 +63,17 @@ none_found found more answer is same =
 
 -- one id more is looked up
 pub looked_on :
-    {S A : Type 0} (t : Meaning S) (look : Machine → ℕ → Option A) (ids : List ℕ) (count : ℕ)
-    (a b c : S) (found more : List A) (answer : Option A) →
-    ((a b c : S) → t.follows a b → t.follows b c → t.follows a c) →
-    ((a b : S) → t.follows a b → t.is_live b → t.is_live a) →
+    {S A X : Type 0} (t : Meaning S) (look : Machine → ℕ → Option A) (ids : List ℕ) (count : ℕ)
+    (a b c : S) (found more : List A) (answer : Option A) (x : X) → Joins t →
     HasLooked t look ids count a b found → count < length ids →
     (t.is_live c → answer ≡ look (t.state b).now (get_or ids count 0)) →
-    (t.is_live c → t.state c ≡ t.state b) → t.is_usable c → t.follows b c →
-    more ≡ found ++ given_by answer → HasLooked t look ids (count + 1) a c more
-looked_on t look ids count a b c found more answer then lived so_far within told same usable follows grown =
+    LeavesSame t b c (Ok x) → more ≡ found ++ given_by answer → HasLooked t look ids (count + 1) a c more
+looked_on t look ids count a b c found more answer x joins so_far within told leaves grown =
     record {
-      same = λ live. same live ∙ so_far.same (lived b c follows live);
-      usable = usable;
-      follows = then a b c so_far.follows follows;
+      leaves = looks_in_turn t a b c _ _ _ joins so_far.leaves leaves;
       found_is = λ live.
-          let before = lived b c follows live in
-          let m_is = ap (λ (s : State). s.now) (so_far.same before) in
+          let before = joins.lived b c leaves.follows live in
+          let m_is = ap (λ (s : State). s.now) (so_far.leaves.same before) in
           grown
           ∙ ap (λ xs. xs ++ given_by answer) (so_far.found_is before)
           ∙ ap (λ x. filter_map (look (t.state a).now) (take count ids) ++ given_by x)

@@ -1,5 +1,5 @@
 -- What is shown of all records in the span of a page, found span by span.
-use Rattle.std.proofs.Common.{◌≡◌, ℕ, ◌+◌, ◌-◌, ◌*◌, ◌<◌, ◌≤◌, max, min, Bool, true, false, Option, List, [], length, take, refl, sym, ap, ◌∙◌, subst, arith}
+use Rattle.std.proofs.Common.{◌≡◌, ℕ, ◌+◌, ◌-◌, ◌*◌, ◌<◌, ◌≤◌, max, min, Bool, true, false, Option, Ok, List, [], length, take, refl, sym, ap, ◌∙◌, subst, arith}
 use Rattle.std.specs.List.{filter_map}
 use Rattle.std.proofs.lemmas.List.{take_all}
 use Rattle.records.specs.declared.query.PageFilter.{PageFilter}
@@ -7,16 +7,16 @@ use Rattle.records.specs.declared.query.Span.{Span}
 use Rattle.records.specs.Machine.{Machine}
 use Rattle.records.specs.Queries.{Page, page_order, page_span}
 use Rattle.chain.specs.Pages.{LooksWithin, all_within, chosen_of, first_shown, page_of, page_on, span_behind}
+use Rattle.chain.specs.Looks.{LeavesSame}
 use Rattle.chain.specs.Tables.{Meaning, State}
 use Rattle.chain.specs.declared.pages.Draft.{Draft}
+use Rattle.chain.proofs.TableCalls.{Joins, looks_in_turn}
 use Rattle.chain.proofs.PageSpans.{same_order}
 
 -- what is shown comes of a draft by the rest of a span, however much is looked at
 pub record IsShowing {S A B : Type 0} (t : Meaning S) (time : A → ℕ) (shown : Machine → A → Option B) (asked : PageFilter)
     (records : Machine → List A) (old new : S) (span : Span) (draft : Draft B) : Type 0 where
-  pub same : t.is_live new → t.state new ≡ t.state old
-  pub usable : t.is_usable new
-  pub follows : t.follows old new
+  pub leaves : LeavesSame t old new (Ok (tt {0}))
   pub shows : t.is_live new → (left : ℕ) →
       length (all_within time (page_span asked) (records (t.state old).now)) ≤ left →
       (page_on time (shown (t.state old).now) asked left (all_within time span (records (t.state old).now)) (page_of draft)).entries
@@ -45,9 +45,7 @@ module _ {S A B : Type 0} (t : Meaning S) (time : A → ℕ) (shown : Machine �
       IsShowing t time shown asked records a a
       (record { first = s.first; last = s.last; order = s.order; most = most }) draft
   showing_begins a s most draft usable stays span_is most_is empty = record {
-    same = λ live. refl;
-    usable = usable;
-    follows = stays;
+    leaves = record { same = λ live. refl; usable = usable; follows = stays };
     shows = λ live left le.
         let m = (t.state a).now in
         ap (λ (w : Span). (page_on time (shown m) asked left (all_within time w (records m)) (page_of draft)).entries) span_is
@@ -59,24 +57,20 @@ module _ {S A B : Type 0} (t : Meaning S) (time : A → ℕ) (shown : Machine �
   }
 
   pub showing_goes_on :
-      (a b c : S) (span s : Span) (most : ℕ) (draft new : Draft B) (ended : Bool) →
-      ((a b c : S) → t.follows a b → t.follows b c → t.follows a c) →
-      ((a b : S) → t.follows a b → t.is_live b → t.is_live a) →
+      (a b c : S) (span s : Span) (most : ℕ) (draft new : Draft B) (ended : Bool) → Joins t →
       IsShowing t time shown asked records a b span draft →
       (t.is_live c → LooksWithin time (shown (t.state b).now) asked (records (t.state b).now) span (page_of draft) (page_of new) ended)
-      → ended ≡ false → (t.is_live c → t.state c ≡ t.state b) → t.is_usable c → t.follows b c →
+      → ended ≡ false → LeavesSame t b c (Ok ended) →
       s ≡ span_behind span new.behind → most ≡ min 1000 (2 * span.most) →
       IsShowing t time shown asked records a c
       (record { first = s.first; last = s.last; order = s.order; most = most }) new
-  showing_goes_on a b c span s most draft new ended then lived so_far looks going same usable follows span_is most_is = record {
-    same = λ live. same live ∙ so_far.same (lived b c follows live);
-    usable = usable;
-    follows = then a b c so_far.follows follows;
+  showing_goes_on a b c span s most draft new ended joins so_far looks going leaves span_is most_is = record {
+    leaves = looks_in_turn t a b c _ _ _ joins so_far.leaves leaves;
     shows = λ live left le.
-        let before = lived b c follows live in
+        let before = joins.lived b c leaves.follows live in
         let m = (t.state a).now in
         let looked = subst (λ (x : State). LooksWithin time (shown x.now) asked (records x.now) span (page_of draft) (page_of new) ended)
-        (so_far.same before) (looks live) in
+        (so_far.leaves.same before) (looks live) in
         let more : span.most ≤ left + span.most = omega arith in
         let back : left + span.most - span.most ≡ left = omega arith in
         ap (λ (w : Span). (page_on time (shown m) asked left (all_within time w (records m)) (page_of new)).entries) span_is
@@ -89,17 +83,16 @@ module _ {S A B : Type 0} (t : Meaning S) (time : A → ℕ) (shown : Machine �
   }
 
   pub showing_ends :
-      (a b c : S) (span : Span) (draft new : Draft B) (ended : Bool) →
-      ((a b : S) → t.follows a b → t.is_live b → t.is_live a) →
+      (a b c : S) (span : Span) (draft new : Draft B) (ended : Bool) → Joins t →
       IsShowing t time shown asked records a b span draft →
       (t.is_live c → LooksWithin time (shown (t.state b).now) asked (records (t.state b).now) span (page_of draft) (page_of new) ended)
-      → ended ≡ true → t.follows b c → t.is_live c →
+      → ended ≡ true → LeavesSame t b c (Ok ended) → t.is_live c →
       new.entries.items ≡ first_shown time (shown (t.state a).now) asked (records (t.state a).now)
-  showing_ends a b c span draft new ended lived so_far looks over follows live =
-      let before = lived b c follows live in
+  showing_ends a b c span draft new ended joins so_far looks over leaves live =
+      let before = joins.lived b c leaves.follows live in
       let m = (t.state a).now in
       let looked = subst (λ (x : State). LooksWithin time (shown x.now) asked (records x.now) span (page_of draft) (page_of new) ended)
-      (so_far.same before) (looks live) in
+      (so_far.leaves.same before) (looks live) in
       let left = length (all_within time (page_span asked) (records m)) + span.most in
       sym (ap (λ (p : Page B). p.entries) (looked.ends over left (omega arith)))
       ∙ so_far.shows before left (omega arith)

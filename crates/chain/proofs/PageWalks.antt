@@ -1,5 +1,5 @@
 -- What tables that only show records have led to, where a page is made.
-use Rattle.std.proofs.Common.{◌≡◌, ℕ, ◌+◌, ◌-◌, ◌*◌, ◌<◌, ◌≤◌, max, min, ltb, Bool, true, false, Option, List, ◌∷◌, [], ◌++◌, length, take, drop, get_or, refl, sym, ap, ◌∙◌, subst, arith}
+use Rattle.std.proofs.Common.{◌≡◌, ℕ, ◌+◌, ◌-◌, ◌*◌, ◌<◌, ◌≤◌, max, min, ltb, Bool, true, false, Option, Ok, List, ◌∷◌, [], ◌++◌, length, take, drop, get_or, refl, sym, ap, ◌∙◌, subst, arith}
 use Rattle.std.specs.List.{All}
 use Rattle.std.specs.Option.{option_to_list}
 use Rattle.std.proofs.lemmas.Bool.{ltb-true}
@@ -12,25 +12,23 @@ use Rattle.records.specs.declared.query.Span.{Span}
 use Rattle.records.specs.Machine.{Machine}
 use Rattle.records.specs.Queries.{Page, page_in, page_order, page_span, time_behind, most_looked_at}
 use Rattle.chain.specs.Pages.{AreRecords, IsRecord, LooksThrough, LooksWithin, RunsIn, all_within, behind_last, is_full, page_of, page_on, span_behind}
+use Rattle.chain.specs.Looks.{LeavesSame}
 use Rattle.chain.specs.Tables.{Meaning, State}
 use Rattle.chain.specs.declared.pages.Draft.{Draft}
+use Rattle.chain.proofs.TableCalls.{Joins, looks_in_turn}
 use Rattle.chain.proofs.PageSpans.{rest_of_span, same_order, within_all}
 use Rattle.chain.proofs.PageSteps.{at_end, from_none, full_is, none_left, one_on}
 
 -- the first of some records are looked at
 pub record HasLookedAt {S A B : Type 0} (t : Meaning S) (time : A → ℕ) (shown : Machine → A → Option B) (asked : PageFilter)
     (records : List A) (count : ℕ) (old new : S) (begun draft : Draft B) : Type 0 where
-  pub same : t.is_live new → t.state new ≡ t.state old
-  pub usable : t.is_usable new
-  pub follows : t.follows old new
+  pub leaves : LeavesSame t old new (Ok (tt {0}))
   pub looked : t.is_live new → LooksThrough time (shown (t.state old).now) asked (take count records) (page_of begun) (page_of draft)
 
 -- the page comes of its draft by the rest of a span
 pub record IsMaking {S A B : Type 0} (t : Meaning S) (time : A → ℕ) (shown : Machine → A → Option B) (asked : PageFilter)
     (records : Machine → List A) (old new : S) (left : ℕ) (span : Span) (draft : Draft B) : Type 0 where
-  pub same : t.is_live new → t.state new ≡ t.state old
-  pub usable : t.is_usable new
-  pub follows : t.follows old new
+  pub leaves : LeavesSame t old new (Ok (tt {0}))
   pub page : t.is_live new →
       page_in time (shown (t.state old).now) asked (records (t.state old).now)
       ≡ page_on time (shown (t.state old).now) asked left (all_within time span (records (t.state old).now)) (page_of draft)
@@ -41,24 +39,20 @@ pub record IsMaking {S A B : Type 0} (t : Meaning S) (time : A → ℕ) (shown :
 
 -- one record more
 pub looked_at :
-    {S A B : Type 0} (t : Meaning S) (time : A → ℕ) (shown : Machine → A → Option B) (asked : PageFilter)
-    (records : List A) (count : ℕ) (a b c : S) (begun mid new : Draft B) (it : A) →
-    ((a b c : S) → t.follows a b → t.follows b c → t.follows a c) →
-    ((a b : S) → t.follows a b → t.is_live b → t.is_live a) →
+    {S A B X : Type 0} (t : Meaning S) (time : A → ℕ) (shown : Machine → A → Option B) (asked : PageFilter)
+    (records : List A) (count : ℕ) (a b c : S) (begun mid new : Draft B) (it : A) (x : X) → Joins t →
     HasLookedAt t time shown asked records count a b begun mid → count < length records →
     it ≡ get_or records count it → is_full asked (page_of mid) ≡ false →
     (t.is_live c → new.entries.items ≡ mid.entries.items ++ option_to_list (shown (t.state b).now it)) →
     (t.is_live c → new.behind ≡ time_behind (page_order asked) (time it)) →
-    (t.is_live c → t.state c ≡ t.state b) → t.is_usable c → t.follows b c →
+    LeavesSame t b c (Ok x) →
     HasLookedAt t time shown asked records (count + 1) a c begun new
-looked_at t time shown asked records count a b c begun mid new it then lived so_far within is not_full entries behind same usable follows =
+looked_at t time shown asked records count a b c begun mid new it x joins so_far within is not_full entries behind leaves =
     record {
-      same = λ live. same live ∙ so_far.same (lived b c follows live);
-      usable = usable;
-      follows = then a b c so_far.follows follows;
+      leaves = looks_in_turn t a b c _ _ _ joins so_far.leaves leaves;
       looked = λ live.
-          let before = lived b c follows live in
-          let m_is = ap (λ (s : State). s.now) (so_far.same before) in
+          let before = joins.lived b c leaves.follows live in
+          let m_is = ap (λ (s : State). s.now) (so_far.leaves.same before) in
           let longer = take_more records count it within ∙ ap (λ x. take count records ++ x ∷ []) (sym is) in
           subst (λ looked. LooksThrough time (shown (t.state a).now) asked looked (page_of begun) (page_of new)) (sym longer)
           (one_on time (shown (t.state a).now) asked (take count records) it (page_of begun) (page_of mid) (page_of new)
@@ -172,9 +166,7 @@ module _ {S A B : Type 0} (t : Meaning S) (time : A → ℕ) (shown : Machine �
       IsMaking t time shown asked records a a most_looked_at
       (record { first = s.first; last = s.last; order = s.order; most = most }) draft
   making_begins a s most draft usable stays span_is most_is empty = record {
-    same = λ live. refl;
-    usable = usable;
-    follows = stays;
+    leaves = record { same = λ live. refl; usable = usable; follows = stays };
     page = λ live.
         let m = (t.state a).now in
         from_none time (shown m) asked (records m)
@@ -189,24 +181,20 @@ module _ {S A B : Type 0} (t : Meaning S) (time : A → ℕ) (shown : Machine �
 
   -- a span's first records are looked at
   pub making_goes_on :
-      (a b c : S) (left : ℕ) (span s : Span) (most : ℕ) (draft new : Draft B) (ended : Bool) →
-      ((a b c : S) → t.follows a b → t.follows b c → t.follows a c) →
-      ((a b : S) → t.follows a b → t.is_live b → t.is_live a) →
+      (a b c : S) (left : ℕ) (span s : Span) (most : ℕ) (draft new : Draft B) (ended : Bool) → Joins t →
       IsMaking t time shown asked records a b left span draft → 0 < left →
       (t.is_live c → LooksWithin time (shown (t.state b).now) asked (records (t.state b).now) span (page_of draft) (page_of new) ended)
-      → ended ≡ false → (t.is_live c → t.state c ≡ t.state b) → t.is_usable c → t.follows b c →
+      → ended ≡ false → LeavesSame t b c (Ok ended) →
       s ≡ span_behind span new.behind → most ≡ min (left - span.most) (2 * span.most) →
       IsMaking t time shown asked records a c (left - span.most)
       (record { first = s.first; last = s.last; order = s.order; most = most }) new
-  making_goes_on a b c left span s most draft new ended then lived so_far some looks going same usable follows span_is most_is = record {
-    same = λ live. same live ∙ so_far.same (lived b c follows live);
-    usable = usable;
-    follows = then a b c so_far.follows follows;
+  making_goes_on a b c left span s most draft new ended joins so_far some looks going leaves span_is most_is = record {
+    leaves = looks_in_turn t a b c _ _ _ joins so_far.leaves leaves;
     page = λ live.
-        let before = lived b c follows live in
+        let before = joins.lived b c leaves.follows live in
         let m = (t.state a).now in
         let looked = subst (λ (x : State). LooksWithin time (shown x.now) asked (records x.now) span (page_of draft) (page_of new) ended)
-        (so_far.same before) (looks live) in
+        (so_far.leaves.same before) (looks live) in
         so_far.page before ∙ looked.goes_on going left so_far.most
         ∙ ap (λ (w : Span). page_on time (shown m) asked (left - span.most) (all_within time w (records m)) (page_of new)) (sym span_is);
     order = ap (λ (w : Span). w.order) span_is ∙ same_order span.order span new.behind ∙ so_far.order;

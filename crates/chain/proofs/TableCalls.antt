@@ -2,6 +2,7 @@
 use Rattle.std.proofs.Common.{◌≡◌, Result, Ok, Err, None, ap, ◌∙◌, sym, inl}
 use Rattle.records.specs.declared.unavailable.Unavailable.{Unavailable}
 use Rattle.records.specs.Machine.{Machine}
+use Rattle.chain.specs.Looks.{LeavesSame}
 use Rattle.chain.specs.Tables.{State, Meaning, Leaves, LeavesRun, on_now, marking}
 use Rattle.chain.specs.Tables.{unmarked, at_mark}
 
@@ -19,6 +20,16 @@ in_turn t a b c x y f g joins first second = record {
   usable = second.usable;
   undone = λ live. tt;
   follows = joins.then _ _ _ first.follows second.follows;
+}
+
+-- two looks in turn
+pub looks_in_turn :
+    {S X Y Z : Type 0} (t : Meaning S) (a b c : S) (x : X) (y : Y) (z : Z) → Joins t →
+    LeavesSame t a b (Ok x) → LeavesSame t b c (Ok y) → LeavesSame t a c (Ok z)
+looks_in_turn t a b c x y z joins first second = record {
+  same = λ live. second.same live ∙ first.same (joins.lived b c second.follows live);
+  usable = second.usable;
+  follows = joins.then a b c first.follows second.follows;
 }
 
 -- a change in other words

@@ -5,9 +5,8 @@ use Rattle.std.specs.Prelude.{Option, Some, None, ◌==◌, if◌then◌else◌}
 use Rattle.std.specs.Option.{option_map}
 use Rattle.std.proofs.Common.{arith, ◌∙◌, sym, refl, subst}
 use Rattle.std.proofs.lemmas.Bool.Decides.{nat_tests}
-use Rattle.std.proofs.lemmas.List.Elements.{All-weaker, All-append, All-cons, All-nil}
+use Rattle.std.proofs.lemmas.List.Elements.{All-weaker, All-push}
 use Rattle.records.specs.declared.account.Account.{Account}
-use Rattle.records.specs.declared.account.AccountEvent.{AccountEvent}
 use Rattle.records.specs.declared.transfer.Transfer.{Transfer}
 use Rattle.records.specs.declared.transfer.TransferEvent.{TransferEvent}
 use Rattle.records.specs.declared.transfer_result.TransferResult.{TransferResult}
@@ -37,15 +36,22 @@ pub record IsUnused (m : Machine) (id : ℕ) : Type 0 where
   pub unknown : transfer_with id m.transfers ≡ None
   pub unrecorded : has_id id m.failed ≡ false
 
--- the laws of a kind of event: an event keeps its machine in its batch, and leaves no id unused
--- that was used; one that fails for good has an unused id
+-- an event keeps its machine in its batch
+abbrev pub KeepsBatch : {E R : Type 0} → Rules E R → Type 0
+KeepsBatch {E} rules =
+    (m : Machine) (ev : E) (timestamp clock : ℕ) →
+    IsInBatch m clock timestamp → IsInBatch (rules.after m ev timestamp) clock (timestamp + 1)
+
+-- an id that was used stays so
+abbrev pub KeepsUsed : {E R : Type 0} → Rules E R → Type 0
+KeepsUsed {E} rules =
+    (m : Machine) (ev : E) (timestamp id : ℕ) →
+    IsUnused (rules.after m ev timestamp) id → IsUnused m id
+
+-- the laws of a kind of event; one that fails for good has an unused id
 pub record EventLaws {E R : Type 0} (rules : Rules E R) : Type 0 where
-  pub keeps_batch :
-      (m : Machine) (ev : E) (timestamp clock : ℕ) →
-      IsInBatch m clock timestamp → IsInBatch (rules.after m ev timestamp) clock (timestamp + 1)
-  pub was_unused :
-      (m : Machine) (ev : E) (timestamp id : ℕ) →
-      IsUnused (rules.after m ev timestamp) id → IsUnused m id
+  pub keeps_batch : KeepsBatch rules
+  pub was_unused : KeepsUsed rules
   pub fails_unused :
       (m : Machine) (ev : E) (r : R) (id : ℕ) →
       rules.verdict m ev ≡ Some r → rules.failed_id ev r ≡ Some id → IsUnused m id
@@ -64,40 +70,30 @@ stays_later m clock timestamp next before later = record {
       (λ t h. omega arith) m.transfers before.after_transfers;
 }
 
-account_keeps_batch :
-    (m : Machine) (ev : AccountEvent) (timestamp clock : ℕ) → IsInBatch m clock timestamp →
-    IsInBatch (after_account m ev timestamp) clock (timestamp + 1)
+account_keeps_batch : KeepsBatch account_rules
 unfolding after_account
 account_keeps_batch m ev timestamp clock before =
-    let P = λ (a : Account). a.timestamp < timestamp + 1 in
-    let older = stays_later m clock timestamp (timestamp + 1) before (omega arith) in
-    record {
+    let older = stays_later m clock timestamp (timestamp + 1) before (omega arith) in record {
       at = before.at;
       after_accounts =
-          All-append P m.accounts (stored_account ev timestamp ∷ []) older.after_accounts
-          (All-cons P (stored_account ev timestamp) [] (omega arith) (All-nil P));
+          All-push (λ (a : Account). a.timestamp < timestamp + 1) m.accounts
+          (stored_account ev timestamp) older.after_accounts (omega arith);
       after_transfers = older.after_transfers;
     }
 
-transfer_keeps_batch :
-    (m : Machine) (ev : TransferEvent) (timestamp clock : ℕ) → IsInBatch m clock timestamp →
-    IsInBatch (after_transfer m ev timestamp) clock (timestamp + 1)
+transfer_keeps_batch : KeepsBatch transfer_rules
 unfolding after_transfer
 transfer_keeps_batch m ev timestamp clock before =
-    let P = λ (t : Transfer). t.timestamp < timestamp + 1 in
-    let older = stays_later m clock timestamp (timestamp + 1) before (omega arith) in
-    let t = stored_transfer (facts_of m ev) ev timestamp m.clock in
-    record {
+    let older = stays_later m clock timestamp (timestamp + 1) before (omega arith) in record {
       at = before.at;
       after_accounts = older.after_accounts;
       after_transfers =
-          All-append P m.transfers (t ∷ []) older.after_transfers
-          (All-cons P t [] (omega arith) (All-nil P));
+          All-push (λ (t : Transfer). t.timestamp < timestamp + 1) m.transfers
+          (stored_transfer (facts_of m ev) ev timestamp m.clock) older.after_transfers
+          (omega arith);
     }
 
-account_was_unused :
-    (m : Machine) (ev : AccountEvent) (timestamp id : ℕ) →
-    IsUnused (after_account m ev timestamp) id → IsUnused m id
+account_was_unused : KeepsUsed account_rules
 unfolding after_account
 account_was_unused m ev timestamp id unused = record {
   not_zero = unused.not_zero;
@@ -121,9 +117,7 @@ not_before id (first ∷ entries) entry none =
     let later = not_first (first.id == id) first (transfer_with id (entries ++ entry ∷ [])) none in
     rw later.0 (not_before id entries entry later.1)
 
-transfer_was_unused :
-    (m : Machine) (ev : TransferEvent) (timestamp id : ℕ) →
-    IsUnused (after_transfer m ev timestamp) id → IsUnused m id
+transfer_was_unused : KeepsUsed transfer_rules
 unfolding after_transfer
 transfer_was_unused m ev timestamp id unused = record {
   not_zero = unused.not_zero;

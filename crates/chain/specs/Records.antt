@@ -5,15 +5,16 @@ use Rattle.std.proofs.lemmas.List.Elements.{All-cons, All-filter, All-head, All-
 use Rattle.records.specs.declared.account.Account.{Account}
 use Rattle.records.specs.declared.filter.Order.TheVariants.{Oldest}
 use Rattle.records.specs.declared.transfer.Transfer.{Transfer}
-use Rattle.records.specs.Machine.{Machine, account_with, transfer_with}
+use Rattle.records.specs.Machine.{Machine, transfer_with}
 use Rattle.records.specs.Reads.{Entry, entries_after, is_entry_of}
 use Rattle.records.specs.Step.{max_clock}
 use Rattle.records.specs.Valid.{IsValid}
 use Rattle.chain.specs.declared.account_entry.AccountEntry.{AccountEntry}
 use Rattle.chain.specs.AccountEntries.{account_entries, account_entry, entry_time}
 use Rattle.chain.specs.Pages.{AreRecords, IsRecord, RunsIn}
-use Rattle.engine.proofs.ValidMachineLemmas.{AreAscending, accounts_ascend, clock_bound}
-use Rattle.engine.proofs.ValidMachineLemmas.{found_itself, sound, transfers_ascend}
+use Rattle.engine.proofs.ValidMachineLemmas.{AreAscending, AreDistinct, accounts_ascend}
+use Rattle.engine.proofs.ValidMachineLemmas.{clock_bound, found_itself, sound, transfers_ascend}
+use Rattle.engine.proofs.ValidMachineLemmas.{with_key}
 
 -- a time that a record has at this clock
 IsPast : ℕ → ℕ → Type 0
@@ -56,40 +57,39 @@ runs : {A : Type 0} (time : A → ℕ) (records : List A) → AreAscending time 
 runs time [] ascending = tt
 runs time (it ∷ more) ascending = (ascending.0, runs time more ascending.1)
 
--- records that rise, are past and are kept
+-- records each of which is the one with its id
+abbrev pub AreFoundById : {A : Type 0} → (A → ℕ) → (A → ℕ) → List A → Type 0
+AreFoundById time id records =
+    AreRecords time (λ it. with_key id (id it) records ≡ Some it) records
+
+-- they rise and are past, and each id stands once
 are_records :
-    {A : Type 0} (time : A → ℕ) (Kept : A → Type 0) (m : Machine) (records : List A) → IsValid m →
-    AreAscending time records → All (λ it. IsPast m.clock (time it)) records → All Kept records →
-    AreRecords time Kept records
+    {A : Type 0} (time id : A → ℕ) (m : Machine) (records : List A) → IsValid m →
+    AreAscending time records → All (λ it. IsPast m.clock (time it)) records →
+    AreDistinct id records → AreFoundById time id records
 unfolding IsPast
-are_records time Kept m records valid ascending past kept = record {
+are_records time id m records valid ascending past distinct = record {
   rise = runs time records ascending;
   each = λ k d within. record {
     positive = (past k d within).0;
     bounded = omega (arith, (past k d within).1, clock_bound m valid);
-    kept = kept k d within;
+    kept = found_itself id records distinct k d within;
   };
 }
 
 pub account_records :
     (m : Machine) → IsValid m →
-    AreRecords (λ (a : Account). a.timestamp) (λ a. account_with a.id m.accounts ≡ Some a)
-    m.accounts
+    AreFoundById (λ (a : Account). a.timestamp) (λ a. a.id) m.accounts
 account_records m valid =
-    are_records (λ (a : Account). a.timestamp)
-    (λ a. account_with a.id m.accounts ≡ Some a) m m.accounts
-    valid (accounts_ascend m valid) (accounts_past m valid)
-    (found_itself (λ (a : Account). a.id) m.accounts (sound m valid).accounts)
+    are_records (λ (a : Account). a.timestamp) (λ a. a.id) m m.accounts valid
+    (accounts_ascend m valid) (accounts_past m valid) (sound m valid).accounts
 
 pub transfer_records :
     (m : Machine) → IsValid m →
-    AreRecords (λ (t : Transfer). t.timestamp) (λ t. transfer_with t.id m.transfers ≡ Some t)
-    m.transfers
+    AreFoundById (λ (t : Transfer). t.timestamp) (λ t. t.id) m.transfers
 transfer_records m valid =
-    are_records (λ (t : Transfer). t.timestamp)
-    (λ t. transfer_with t.id m.transfers ≡ Some t) m m.transfers
-    valid (transfers_ascend m valid) (transfers_past m valid)
-    (found_itself (λ (t : Transfer). t.id) m.transfers (sound m valid).transfers)
+    are_records (λ (t : Transfer). t.timestamp) (λ t. t.id) m m.transfers valid
+    (transfers_ascend m valid) (transfers_past m valid) (sound m valid).transfers
 
 -- the account's entries of a list, behind those before it
 entries_in : ℕ → List Transfer → List Transfer → List AccountEntry

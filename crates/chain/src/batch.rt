@@ -2,7 +2,7 @@ ghost use Rattle.std.specs.Prelude.{◌≡◌, ◌<◌, ◌≤◌, ◌+◌, ◌+
 ghost use Rattle.std.specs.Prelude.{None, MatchOption, IfOk, IfSome, IsSome, OnOk, vec_len};
 ghost use Rattle.std.specs.Prelude.{vec_capacity};
 ghost use Rattle.records.specs.Chains.{chains_of, chains_results, trial_of, chain_size};
-ghost use Rattle.records.specs.Chains.{after_fallen, after_chain, after_chains};
+ghost use Rattle.records.specs.Chains.{after_fallen, after_chains};
 ghost use Rattle.records.specs.Step.{max_clock, with_timestamps, step_outcome, step_machine};
 ghost use Rattle.records.specs.Step.{IsReply};
 ghost use Rattle.chain.specs.Tables.{IsFresh, Tells, Leaves, LeavesRun, on_now, closing};
@@ -16,9 +16,12 @@ use crate::events::BatchEvent;
 use records::{BatchReply, EventResult, MAX_CLOCK, Refusal, Unavailable};
 use std::alloc::Global;
 
-/// Runs a batch at a moment, in nanoseconds. All memory for the reply is taken before the first
-/// change.
-pub(crate) fn run_batch<E: BatchEvent, T: Tables>(
+/// Runs a batch of events of a kind at a moment, in nanoseconds: the clock goes to the moment,
+/// unless it is there already, and advances one nanosecond per event. All memory for the reply is
+/// taken before the first change.
+///
+/// After `Unavailable` the batch is over: all is as at its beginning, or as before this call.
+pub fn run_batch<E: BatchEvent, T: Tables>(
     alloc: Global,
     tables: &mut T,
     batch: &[E],
@@ -59,7 +62,8 @@ fn next_clock(clock: u64, events: u64, moment: u64) -> Option<u64>
     }
 }
 
-/// Runs the chains of a batch in turn and adds their results, the first one at this timestamp.
+/// Runs the chains of a batch in turn and adds their results, the first one at this timestamp. Of
+/// each it keeps the id of its first event that fails, where it fails for good.
 fn run_chains<E: BatchEvent, T: Tables>(
     tables: &mut T,
     results: &mut Vec<EventResult<E::Result>>,
@@ -84,35 +88,12 @@ fn run_chains<E: BatchEvent, T: Tables>(
     while start < batch.len() {
         let chain = first_chain(&batch[start..]);
         let timestamp = first + start as u64;
-        let refusal = run_chain(tables, &chain, timestamp, clock)?;
+        let refusal = try_chain(tables, &chain, timestamp, clock)?;
+        record_failed(tables, refusal)?;
         push_results(results, &chain, refusal, timestamp);
         start += chain.size();
     }
     Ok(())
-}
-
-/// Runs a chain, and keeps the id of its first event that fails, where it fails for good: that
-/// refusal.
-fn run_chain<E: BatchEvent, T: Tables>(
-    tables: &mut T,
-    chain: &CutChain<'_, E>,
-    first: u64,
-    clock: u64,
-) -> Result<Option<Refusal<E::Result>>, Unavailable>
-    requires usable { T.means.is_usable tables.old }
-    requires between { T.means.is_live tables.old →
-        IsBetweenChains (T.means.state tables.old) clock first }
-    requires in_time { IsInTime clock first (chain_size (chain_of chain.now)) }
-    ensures refusal { Tells T.means tables.old tables.new result
-        (λ m. (trial_of E.rules m chain.now.judged.now first).refusal) }
-    ensures within { IfOk result
-        (λ refusal. IfSome refusal (λ r. r.place < length chain.now.judged.now)) }
-    ensures leaves { Leaves T.means tables.old tables.new result
-        (on_now (λ m. after_chain E.rules m (chain_of chain.now) first)) }
-{
-    let refusal = try_chain(tables, chain, first, clock)?;
-    record_failed(tables, refusal)?;
-    Ok(refusal)
 }
 
 /// Tries a chain, and goes back unless it is closed and all its events are accepted: the first

@@ -16,7 +16,7 @@ use records::{
 use std::alloc::Global;
 
 /// A kind of event that a batch is made of.
-pub(crate) trait BatchEvent {
+pub trait BatchEvent {
     type Result: Copy;
 
     ghost rules: { Rules Self Self.Result };
@@ -155,10 +155,7 @@ impl BatchEvent for TransferEvent {
     ghost laws = { transfer_laws };
 }
 
-/// Runs a batch of account events at a moment, in nanoseconds: the clock goes to the moment, unless
-/// it is there already, and advances one nanosecond per event.
-///
-/// After `Unavailable` the batch is over: all is as at its beginning, or as before this call.
+/// Runs a batch of account events, as `run_batch` does.
 pub fn run_accounts<T: Tables>(
     alloc: Global,
     tables: &mut T,
@@ -178,10 +175,7 @@ pub fn run_accounts<T: Tables>(
     run_batch(alloc, tables, accounts, moment)
 }
 
-/// Runs a batch of transfer events at a moment, in nanoseconds: the clock goes to the moment,
-/// unless it is there already, and advances one nanosecond per event.
-///
-/// After `Unavailable` the batch is over: all is as at its beginning, or as before this call.
+/// Runs a batch of transfer events, as `run_batch` does.
 pub fn run_transfers<T: Tables>(
     alloc: Global,
     tables: &mut T,

@@ -10,7 +10,7 @@ ghost use Rattle.chain.specs.Looks.{Answers};
 ghost use Rattle.chain.specs.Records.{entry_records};
 
 use crate::pages::first_shown;
-use crate::query::Query;
+use crate::query::{Query, Source};
 use crate::reading::AccountFault;
 use crate::{AccountEntry, Listed, Tables, Work};
 use records::{AccountFilter, BalanceAt, PageFilter, PageFlags, Span, Transfer, Unavailable};
@@ -93,29 +93,14 @@ struct EntryQuery {
     asked: AccountFilter,
 }
 
-impl Query for EntryQuery {
+impl Source for EntryQuery {
     type Record = AccountEntry;
-
-    type Shown = AccountEntry;
 
     ghost records_in = { λ query m. account_entries m query.asked.account_id };
 
     ghost is_kept = { λ m entry. Unit {0} };
 
     ghost time_of = { entry_time };
-
-    ghost shown_in = { λ query m entry. asked_entry query.asked entry };
-
-    ghost asks = { λ query. page_asked query.asked };
-
-    fn page(&self) -> PageFilter {
-        PageFilter {
-            timestamp_min: self.asked.timestamp_min,
-            timestamp_max: self.asked.timestamp_max,
-            limit: self.asked.limit,
-            flags: PageFlags(u16::from(self.asked.flags.is_newest_first())),
-        }
-    }
 
     fn time(&self, entry: &AccountEntry) -> u64 {
         entry.transfer.timestamp
@@ -130,6 +115,25 @@ impl Query for EntryQuery {
         tables.account_entries(alloc, self.asked.account_id, span)
     }
 
+    ghost in_turn = { λ query m valid. entry_records m valid query.asked.account_id };
+}
+
+impl Query for EntryQuery {
+    type Shown = AccountEntry;
+
+    ghost shown_in = { λ query m entry. asked_entry query.asked entry };
+
+    ghost asks = { λ query. page_asked query.asked };
+
+    fn page(&self) -> PageFilter {
+        PageFilter {
+            timestamp_min: self.asked.timestamp_min,
+            timestamp_max: self.asked.timestamp_max,
+            limit: self.asked.limit,
+            flags: PageFlags(u16::from(self.asked.flags.is_newest_first())),
+        }
+    }
+
     fn show<T: Tables>(
         &self,
         _tables: &mut T,
@@ -141,6 +145,4 @@ impl Query for EntryQuery {
             Ok(None)
         }
     }
-
-    ghost in_turn = { λ query m valid. entry_records m valid query.asked.account_id };
 }

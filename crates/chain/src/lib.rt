@@ -22,7 +22,8 @@ mod work;
 
 pub use account_entry::AccountEntry;
 pub use backend::{Backend, RoundBackend};
-pub use events::{run_accounts, run_transfers};
+pub use batch::run_batch;
+pub use events::{BatchEvent, run_accounts, run_transfers};
 pub use facts::transfer_facts;
 pub use in_use::InUse;
 pub use ledgers::{BatchFault, Ledgers};

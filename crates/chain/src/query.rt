@@ -18,27 +18,17 @@ use records::{
 };
 use std::alloc::Global;
 
-/// A question that is answered in pages.
-pub(crate) trait Query {
+/// Records that are looked through for a page.
+pub(crate) trait Source {
     type Record: Copy;
 
-    type Shown: Drop;
-
-    // The records of a machine that it looks at, oldest first; what holds of each of them; when a
-    // record was accepted; what is shown of one, if it is asked for; and which page is asked for.
+    // The records of a machine, oldest first; what holds of each of them; and when one was
+    // accepted.
     ghost records_in: { Self → Machine → List Self.Record };
 
     ghost is_kept: { Machine → Self.Record → Type 0 };
 
     ghost time_of: { Self.Record → ℕ };
-
-    ghost shown_in: { Self → Machine → Self.Record → Option Self.Shown };
-
-    ghost asks: { Self → Asked };
-
-    /// Which page is asked for.
-    fn page(&self) -> PageFilter
-        ensures { result ≡ asks self.now };
 
     /// When a record was accepted, in nanoseconds.
     fn time(&self, record: &Self::Record) -> u64
@@ -56,6 +46,24 @@ pub(crate) trait Query {
             (λ m found. found.items ≡ within time_of span.now (records_in self.now m))
             tables.old tables.new result };
 
+    /// The records of a valid machine stand in order of time.
+    ghost in_turn: { (source : Self) (m : Machine) → IsValid m →
+        AreRecords time_of (is_kept m) (records_in source m) };
+}
+
+/// A question that is answered in pages.
+pub(crate) trait Query: Source {
+    type Shown: Drop;
+
+    // What is shown of a record, if it is asked for; and which page is asked for.
+    ghost shown_in: { Self → Machine → Self.Record → Option Self.Shown };
+
+    ghost asks: { Self → Asked };
+
+    /// Which page is asked for.
+    fn page(&self) -> PageFilter
+        ensures { result ≡ asks self.now };
+
     /// What is shown of a record of the tables, if it is asked for.
     fn show<T: Tables>(
         &self,
@@ -64,13 +72,9 @@ pub(crate) trait Query {
     ) -> Result<Option<Self::Shown>, Unavailable>
         requires usable { T.means.is_usable tables.old }
         requires kept { T.means.is_live tables.old →
-            is_kept (T.means.state tables.old).now record.now }
+            Self.is_kept (T.means.state tables.old).now record.now }
         ensures { Searches T.means (λ m found. found ≡ shown_in self.now m record.now)
             tables.old tables.new result };
-
-    /// The records of a valid machine stand in order of time.
-    ghost in_turn: { (query : Self) (m : Machine) → IsValid m →
-        AreRecords time_of (is_kept m) (records_in query m) };
 }
 
 /// The accounts that a query asks for, with their balances at the clock.
@@ -79,24 +83,14 @@ pub(crate) struct AccountQuery {
     pub(crate) asked: QueryFilter,
 }
 
-impl Query for AccountQuery {
+impl Source for AccountQuery {
     type Record = Account;
-
-    type Shown = AccountWithBalances;
 
     ghost records_in = { λ query m. m.accounts };
 
     ghost is_kept = { λ m account. account_with account.id m.accounts ≡ Some account };
 
     ghost time_of = { λ account. account.timestamp };
-
-    ghost shown_in = { λ query m account. asked_account m query.asked.tags account };
-
-    ghost asks = { λ query. query.asked.page };
-
-    fn page(&self) -> PageFilter {
-        self.asked.page
-    }
 
     fn time(&self, account: &Account) -> u64 {
         account.timestamp
@@ -111,6 +105,20 @@ impl Query for AccountQuery {
         tables.accounts_within(alloc, span)
     }
 
+    ghost in_turn = { λ query. account_records };
+}
+
+impl Query for AccountQuery {
+    type Shown = AccountWithBalances;
+
+    ghost shown_in = { λ query m account. asked_account m query.asked.tags account };
+
+    ghost asks = { λ query. query.asked.page };
+
+    fn page(&self) -> PageFilter {
+        self.asked.page
+    }
+
     fn show<T: Tables>(
         &self,
         tables: &mut T,
@@ -122,34 +130,28 @@ impl Query for AccountQuery {
             Ok(None)
         }
     }
+}
 
-    ghost in_turn = { λ query. account_records };
+/// A question about transfers.
+#[derive(Drop)]
+pub(crate) struct AboutTransfers<A> {
+    pub(crate) asked: A,
 }
 
 /// The transfers that a query asks for.
-#[derive(Drop)]
-pub(crate) struct TransferQuery {
-    pub(crate) asked: QueryFilter,
-}
+pub(crate) type TransferQuery = AboutTransfers<QueryFilter>;
 
-impl Query for TransferQuery {
+/// The holds that are open at the clock.
+pub(crate) type OpenHolds = AboutTransfers<PageFilter>;
+
+impl<A> Source for AboutTransfers<A> {
     type Record = Transfer;
-
-    type Shown = Transfer;
 
     ghost records_in = { λ query m. m.transfers };
 
     ghost is_kept = { λ m transfer. transfer_with transfer.id m.transfers ≡ Some transfer };
 
     ghost time_of = { λ transfer. transfer.timestamp };
-
-    ghost shown_in = { λ query m transfer. asked_transfer query.asked.tags transfer };
-
-    ghost asks = { λ query. query.asked.page };
-
-    fn page(&self) -> PageFilter {
-        self.asked.page
-    }
 
     fn time(&self, transfer: &Transfer) -> u64 {
         transfer.timestamp
@@ -162,6 +164,20 @@ impl Query for TransferQuery {
         span: &Span,
     ) -> Result<Vec<Transfer>, Unavailable> {
         tables.transfers_within(alloc, span)
+    }
+
+    ghost in_turn = { λ query. transfer_records };
+}
+
+impl Query for TransferQuery {
+    type Shown = Transfer;
+
+    ghost shown_in = { λ query m transfer. asked_transfer query.asked.tags transfer };
+
+    ghost asks = { λ query. query.asked.page };
+
+    fn page(&self) -> PageFilter {
+        self.asked.page
     }
 
     fn show<T: Tables>(
@@ -175,26 +191,10 @@ impl Query for TransferQuery {
             Ok(None)
         }
     }
-
-    ghost in_turn = { λ query. transfer_records };
-}
-
-/// The holds that are open at the clock.
-#[derive(Drop)]
-pub(crate) struct OpenHolds {
-    pub(crate) asked: PageFilter,
 }
 
 impl Query for OpenHolds {
-    type Record = Transfer;
-
     type Shown = Hold;
-
-    ghost records_in = { λ query m. m.transfers };
-
-    ghost is_kept = { λ m transfer. transfer_with transfer.id m.transfers ≡ Some transfer };
-
-    ghost time_of = { λ transfer. transfer.timestamp };
 
     ghost shown_in = { λ query m transfer. option_and_then if_open (hold_of m transfer) };
 
@@ -202,19 +202,6 @@ impl Query for OpenHolds {
 
     fn page(&self) -> PageFilter {
         self.asked
-    }
-
-    fn time(&self, transfer: &Transfer) -> u64 {
-        transfer.timestamp
-    }
-
-    fn within<T: Tables>(
-        &self,
-        alloc: Global,
-        tables: &mut T,
-        span: &Span,
-    ) -> Result<Vec<Transfer>, Unavailable> {
-        tables.transfers_within(alloc, span)
     }
 
     fn show<T: Tables>(
@@ -225,6 +212,4 @@ impl Query for OpenHolds {
         let hold = hold_of(tables, transfer)?;
         Ok(hold.filter(|hold| hold.state == PendingState::Open))
     }
-
-    ghost in_turn = { λ query. transfer_records };
 }

@@ -11,8 +11,9 @@ use Rattle.parts.specs.declared.rest.Part.{Part}
 use Rattle.service.specs.Connections.{connection, Exchange}
 use Rattle.clients.specs.Talk.{Talk, received, is_written}
 use Rattle.clients.specs.Answering.{MayCome}
-use Rattle.clients.specs.Turns.{Sent, Clients, clients, ToldReply, Turn, ClientTurns, Nothing, More}
-use Rattle.clients.specs.Deeds.{Room, Act, Came, Ended, Replied, Continued, Wrote, client_of, IsActed, Begin, Then, came_in, come_from, told_in, all_told, sent_with, sent_by, clients_of, AreExchanges}
+use Rattle.clients.specs.Turns.{Sent, Clients, clients, ToldReply, Turn, ClientTurns}
+use Rattle.service.specs.InTurn.{Nothing, More}
+use Rattle.clients.specs.Deeds.{Room, Act, Came, Ended, Replied, Continued, Wrote, client_of, IsActed, came_in, come_from, told_in, all_told, sent_with, sent_by, clients_of, AreExchanges}
 use Rattle.clients.proofs.ClientLemmas.{by_client, if_own-own, if_own-other}
 
 -- what one deed adds to a list of all deeds
@@ -227,8 +228,8 @@ in_all deeds later client = come_from client deeds ++ later client
 -- whatever came in whatever pieces, the replies are those of turns over all that came
 pub are_exchanges :
     {S C : Type 0} (t : LedgersMeaning S) (gives : C → ℕ → C → Type 0) → AreExchanges t gives
-are_exchanges t gives first last deeds Begin later may = Nothing
-are_exchanges t gives first last deeds (Then earlier mid deed next lives done) later may =
+are_exchanges t gives first last deeds Nothing later may = Nothing
+are_exchanges t gives first last deeds (More earlier mid deed next lives done) later may =
     let come_before = may_come_before t gives mid next deed later done may in
     let came : in_all earlier (before deed later) ≡ in_all (earlier ++ deed ∷ []) later =
     fun_ext (λ (client : ℕ). come_from-more client earlier deed (later client)) in

@@ -6,7 +6,8 @@ use Rattle.service.specs.Courses.{Event, Course, Begin}
 use Rattle.service.specs.ConnectionEvents.{event_in, ExchangesLeadOn}
 use Rattle.service.specs.ExchangeLaws.{live_before}
 use Rattle.service.specs.OwnDeeds.{EachSeesItself}
-use Rattle.clients.specs.Turns.{Nothing, More, connection_of, events_in_turns}
+use Rattle.service.specs.InTurn.{Nothing, More}
+use Rattle.clients.specs.Turns.{connection_of, events_in_turns}
 use Rattle.clients.specs.Turns.{TurnsLeadOn, ServeEachAlone}
 
 -- ledgers that are no longer live stay so

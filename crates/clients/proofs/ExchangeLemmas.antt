@@ -8,15 +8,17 @@ use Rattle.ledger_http.specs.declared.refusal.Refusal.TheVariants.{Truncated}
 use Rattle.ledger_http.specs.declared.reply.Reply.{Reply}
 use Rattle.ledger_http.specs.declared.reply.Reply.TheVariants.{Fixed}
 use Rattle.ledger_http.specs.ReplyText.{reply_text}
-use Rattle.ledger_http.specs.Message.{Begins, IsRefused, IsAnnounced}
+use Rattle.ledger_http.specs.Message.{Begins, IsRefused, IsAnnounced, head_size, refused_size}
 use Rattle.ledger_http.specs.Unread.{Unread, without, IsWhole}
 use Rattle.parts.specs.Parts.{chunks_left}
 use Rattle.parts.specs.declared.rest.Rest.{Rest}
 use Rattle.service.specs.Begun.{reply_of, reply_with}
 use Rattle.service.specs.declared.begun.Begun.{Begun}
+use Rattle.service.specs.Connections.{IsCutOff, connection}
 use Rattle.service.specs.Replies.{unavailable}
 use Rattle.service.specs.Responds.{Responds, RefusesEarly, IsQuestionAnswered, IsLeftBy, IsLeftSame}
 use Rattle.clients.specs.Talk.{Talk, may_answer, is_written}
+use Rattle.clients.specs.Calls.{AnswersOn}
 use Rattle.clients.specs.Answering.{AreHeld, MayCome, IsExchange, IsUnmoved, IsReplyReady, TellsGivenUp}
 
 -- what comes later changes nothing of the first message
@@ -107,6 +109,20 @@ answers_whole t gives ledgers ledgers_now moments moments_now old same now messa
       ap (λ (unread : Unread). unread.ended) left,
     )
 
+-- a connection that is cut off, of which nothing is taken
+cut_off_untaken :
+    {S C : Type 0} (Holds : List ℕ → Type 0) (most : List ℕ → ℕ) (ledgers : S) (moments : C)
+    (bytes : List ℕ) → Holds bytes →
+    IsCutOff Holds most (connection ledgers (Some bytes) moments true)
+    (connection ledgers (Some bytes) moments false)
+cut_off_untaken Holds most ledgers moments bytes holds = record {
+  first = at_known Holds bytes holds;
+  taken = λ unread known. (0, omega arith, known);
+  ledgers = refl;
+  moments = refl;
+  ends = refl;
+}
+
 is_cut_short : (refusal : Refusal) → (refusal ≡ Truncated) ⊎ (refusal ≢ Truncated)
 is_cut_short Truncated = inl refl
 is_cut_short refusal = inr (λ (same : refusal ≡ Truncated). cc)
@@ -134,11 +150,10 @@ refused_at t gives ledgers moments old refusal stays refused ended later may =
         refusal = refusal;
         told = refl;
         early = refused.early;
-        first =
-            at_known (λ (unread : List ℕ). IsRefused unread refusal) (old.bytes ++ later)
+        cut =
+            cut_off_untaken (λ (unread : List ℕ). IsRefused unread refusal)
+            (λ (unread : List ℕ). refused_size unread refusal) ledgers moments (old.bytes ++ later)
             (refused_with_later old refusal later stays refused ended may);
-        taken = λ unread known. (0, omega arith, known);
-        cut = record { ledgers = refl; moments = refl; ends = refl };
       }));
     }
 
@@ -216,23 +231,38 @@ pub goes_on_still :
 goes_on_still old inbox outbox rest goes_on is may =
     sym (ap (λ (talk : Talk). talk.goes_on) is ∙ (and_parts old.goes_on (is_written old) may).0)
 
+-- nothing is answered
+pub stays_unmoved :
+    {S C : Type 0} (t : LedgersMeaning S) (P : Unread → Type 0) (ledgers : S) (moments : C)
+    (old new : Unread) → t.follows ledgers ledgers → new ≡ old → P old →
+    AnswersOn t ledgers ledgers (IsUnmoved ledgers moments old ledgers moments new × P old)
+stays_unmoved t P ledgers moments old new follows same is = record {
+  answers = (record { ledgers_same = refl; moments_same = refl; same = same }, is);
+  follows = follows;
+}
+
 pub is_unmoved :
-    {S C : Type 0} (P : Unread → Type 0) (ledgers ledgers_now : S) (moments moments_now : C)
+    {S C : Type 0} (t : LedgersMeaning S) (P : Unread → Type 0) (ledgers ledgers_now : S) (moments moments_now : C)
     (old : Talk) (inbox now : Unread) (outbox : List ℕ) (rest : Option Rest) (goes_on : Bool) →
     talk_of inbox outbox rest goes_on ≡ old →
-    IsUnmoved ledgers moments inbox ledgers_now moments_now now × P inbox →
-    IsUnmoved {T = Talk} ledgers moments old ledgers_now moments_now
+    AnswersOn t ledgers ledgers_now
+    (IsUnmoved ledgers moments inbox ledgers_now moments_now now × P inbox) →
+    AnswersOn t ledgers ledgers_now
+    (IsUnmoved {T = Talk} ledgers moments old ledgers_now moments_now
     (talk_of now outbox rest goes_on)
-    × P old.unread
-is_unmoved P ledgers ledgers_now moments moments_now old inbox now outbox rest goes_on is unmoved = (
-  record {
-    ledgers_same = unmoved.0.ledgers_same;
-    moments_same = unmoved.0.moments_same;
-    same =
-        ap (λ (unread : Unread). talk_of unread outbox rest goes_on) unmoved.0.same ∙ is;
-  },
-  subst P (ap (λ (talk : Talk). talk.unread) is) unmoved.1,
-)
+    × P old.unread)
+is_unmoved t P ledgers ledgers_now moments moments_now old inbox now outbox rest goes_on is unmoved = record {
+  answers = (
+    record {
+      ledgers_same = unmoved.answers.0.ledgers_same;
+      moments_same = unmoved.answers.0.moments_same;
+      same =
+          ap (λ (unread : Unread). talk_of unread outbox rest goes_on) unmoved.answers.0.same ∙ is;
+    },
+    subst P (ap (λ (talk : Talk). talk.unread) is) unmoved.answers.1,
+  );
+  follows = unmoved.follows;
+}
 
 -- a message that is announced is announced whatever comes later
 abbrev pub AnnouncedStays : Type 0
@@ -246,11 +276,9 @@ gives_up t gives stays ledgers moments talk announced = record {
     open_before = refl;
     by = inr (inr (record {
       told = refl;
-      first =
-          at_known IsAnnounced (talk.unread.bytes ++ later)
+      cut =
+          cut_off_untaken IsAnnounced head_size ledgers moments (talk.unread.bytes ++ later)
           (stays talk.unread.bytes later announced);
-      taken = λ unread known. (0, omega arith, known);
-      cut = record { ledgers = refl; moments = refl; ends = refl };
     }));
   };
   unsent = append-nil (reply_text unavailable);

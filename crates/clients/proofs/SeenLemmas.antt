@@ -35,10 +35,15 @@ seen_over old = record {
 }
 
 cut_seen :
-    {S C : Type 0} (old new : Connection S C) → IsCutOff old new →
-    IsCutOff (seen_over old) (seen_over new)
-cut_seen old new cut =
-    record { ledgers = ap Whole cut.ledgers; moments = cut.moments; ends = cut.ends }
+    {S C : Type 0} (Holds : List ℕ → Type 0) (most : List ℕ → ℕ) (old new : Connection S C) →
+    IsCutOff Holds most old new → IsCutOff Holds most (seen_over old) (seen_over new)
+cut_seen Holds most old new cut = record {
+  first = cut.first;
+  taken = cut.taken;
+  ledgers = ap Whole cut.ledgers;
+  moments = cut.moments;
+  ends = cut.ends;
+}
 
 module _ {S C : Type 0} (t : LedgersMeaning S) (gives : C → ℕ → C → Type 0) where
   seen_by :
@@ -64,17 +69,10 @@ module _ {S C : Type 0} (t : LedgersMeaning S) (gives : C → ℕ → C → Type
         refusal = away.refusal;
         told = away.told;
         early = away.early;
-        first = away.first;
-        taken = away.taken;
-        cut = cut_seen old new away.cut;
+        cut = cut_seen _ _ old new away.cut;
       }))
   seen_by old new reply (inr (inr lacks)) =
-      inr (inr (record {
-        told = lacks.told;
-        first = lacks.first;
-        taken = lacks.taken;
-        cut = cut_seen old new lacks.cut;
-      }))
+      inr (inr (record { told = lacks.told; cut = cut_seen _ _ old new lacks.cut }))
 
   pub are_seen : AreSeen t gives
   are_seen ledgers ledgers_now moments moments_now old new reply has = record {

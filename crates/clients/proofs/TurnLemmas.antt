@@ -5,7 +5,8 @@ use Rattle.std.proofs.lemmas.Grind.{flat_map-append}
 use Rattle.std.proofs.lemmas.List.{append-nil}
 use Rattle.chain.specs.Ledgers.{LedgersMeaning}
 use Rattle.ledger_http.specs.declared.reply.Reply.{Reply}
-use Rattle.clients.specs.Turns.{Sent, Clients, ToldReply, Turn, Nothing, More, if_told, told_to, HearsFirst, Hears, Nothing_yet, One_more, HearTheirOwn}
+use Rattle.clients.specs.Turns.{Sent, Clients, ToldReply, Turn, if_told, told_to, HearsFirst, Hears, HearTheirOwn}
+use Rattle.service.specs.InTurn.{Nothing, More}
 
 pub told_to-more : (client : ℕ) (all : List ToldReply) (told : ToldReply) →
     told_to client (all ++ told ∷ []) ≡ told_to client all ++ if_told client told
@@ -19,7 +20,7 @@ hears_if :
     (b ≡ true → HearsFirst t gives old reply new) → (b ≡ false → new ≡ old) →
     Hears S C t gives first (replies ++ (if b then reply ∷ [] else [])) new
 hears_if t gives first old new replies reply true heard own other =
-    One_more replies old reply new heard (own refl)
+    More replies old reply new heard (own refl)
 hears_if {S} {C} t gives first old new replies reply false heard own other =
     subst (λ rs. Hears S C t gives first rs new) (sym (append-nil replies))
     (subst (λ sent. Hears S C t gives first replies sent) (sym (other refl)) heard)
@@ -39,7 +40,7 @@ turn_heard t gives old new told turn = record {
 -- each client hears the replies to its own messages, and no others
 pub hear_their_own :
     {S C : Type 0} (t : LedgersMeaning S) (gives : C → ℕ → C → Type 0) → HearTheirOwn t gives
-hear_their_own t gives first last all Nothing client = Nothing_yet
+hear_their_own t gives first last all Nothing client = Nothing
 hear_their_own {S} {C} t gives first last all (More before mid told next turns turn) client =
     subst (λ rs. Hears S C t gives (first.sent client) rs (next.sent client))
     (sym (told_to-more client before told))

@@ -12,8 +12,9 @@ use Rattle.parts.specs.declared.rest.Rest.{Rest}
 use Rattle.parts.proofs.LeftLemmas.{part_left}
 use Rattle.clients.specs.Talk.{HasNothingUnsent, Talk, is_empty, is_written, owed}
 use Rattle.clients.specs.Answering.{MayCome}
+use Rattle.service.specs.InTurn.{Nothing, More}
 use Rattle.clients.specs.Turns.{ToldReply, if_told, told_to, Hears, HearTheirOwn}
-use Rattle.clients.specs.Deeds.{Room, Act, Came, Ended, Replied, Continued, Wrote, client_of, HasYet, IsActed, Begin, Then, machines_after, machines_then, if_own, come_from, written_in, written_to, told_in, all_told, sent_with, clients_of, AreExchanges, AreWritten, AreServed}
+use Rattle.clients.specs.Deeds.{Room, Act, Came, Ended, Replied, Continued, Wrote, client_of, HasYet, IsActed, machines_after, machines_then, if_own, come_from, written_in, written_to, told_in, all_told, sent_with, clients_of, AreExchanges, AreWritten, AreServed}
 use Rattle.clients.proofs.ClientLemmas.{by_client, if_own-own, if_own-other}
 use Rattle.clients.proofs.DeedLemmas.{one_deed_more}
 
@@ -168,9 +169,9 @@ chained sent new_sent old_unsent told new_told written unsent next so_far keep m
 
 pub are_written :
     {S C : Type 0} (t : LedgersMeaning S) (gives : C → ℕ → C → Type 0) → AreWritten t gives
-are_written t gives first last deeds Begin before client goes =
+are_written t gives first last deeds Nothing before client goes =
     sym (append-nil (owed before (first.talks client)))
-are_written t gives first last deeds (Then earlier mid deed next lives done) before client goes =
+are_written t gives first last deeds (More earlier mid deed next lives done) before client goes =
     let machines = machines_then before lives client in
     chained (written_to client earlier) (written_to client (earlier ++ deed ∷ []))
     (owed before (first.talks client)) (texts_of (told_to client (all_told earlier)))

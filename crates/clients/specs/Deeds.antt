@@ -7,6 +7,7 @@ use Rattle.parts.specs.Parts.{IsPart, chunks_left}
 use Rattle.parts.specs.declared.rest.Part.{Part}
 use Rattle.parts.specs.declared.rest.Rest.{Rest}
 use Rattle.service.specs.Connections.{texts_of}
+use Rattle.service.specs.InTurn.{InTurn, Nothing, More}
 use Rattle.clients.specs.Talk.{Talk, continued, owed, new_talk, received, input_ended, may_answer}
 use Rattle.clients.specs.Answering.{MayCome, IsUnmoved, IsReplyReady}
 use Rattle.clients.specs.Turns.{Sent, Clients, clients, ToldReply, ClientTurns, told_to, Hears}
@@ -71,13 +72,10 @@ pub record IsActed {S C : Type 0} (t : LedgersMeaning S) (gives : C → ℕ → 
   pub others : (other : ℕ) → other ≢ client_of deed → new.talks other ≡ old.talks other
 
 -- deeds, one after the other
-pub data Lives (S C : Type 0) (t : LedgersMeaning S) (gives : C → ℕ → C → Type 0)
-    (first : Room S C) : List Act → Room S C → Type 0 where
-  Begin : Lives S C t gives first [] first
-  Then :
-      (deeds : List Act) (last : Room S C) (deed : Act) (next : Room S C) →
-      Lives S C t gives first deeds last → IsActed t gives last deed next →
-      Lives S C t gives first (deeds ++ deed ∷ []) next
+abbrev pub Lives :
+    (S C : Type 0) → LedgersMeaning S → (C → ℕ → C → Type 0) → Room S C → List Act → Room S C
+    → Type 0
+Lives S C t gives = InTurn (Room S C) Act (IsActed t gives)
 
 abbrev pub if_own : {A : Type 0} → ℕ → ℕ → List A → List A
 if_own client other items = if nat_eq other client then items else []
@@ -179,16 +177,16 @@ module _ {S C : Type 0} {t : LedgersMeaning S} {gives : C → ℕ → C → Type
   abbrev pub machines_then :
       {first last : Room S C} {deeds : List Act} → Tenants → Lives S C t gives first deeds last → ℕ
       → Tenants
-  machines_then before Begin client = before
-  machines_then before (Then deeds last deed next lives done) client =
+  machines_then before Nothing client = before
+  machines_then before (More deeds last deed next lives done) client =
       machines_after client deed (t.tenants next.ledgers) (machines_then before lives client)
 
   -- each part was read so that a client was told
   abbrev pub ReadsOn :
       {first last : Room S C} {deeds : List Act} → Tenants → ℕ → Lives S C t gives first deeds last
       → Type 0
-  ReadsOn before client Begin = Unit {0}
-  ReadsOn before client (Then deeds last deed next lives done) =
+  ReadsOn before client Nothing = Unit {0}
+  ReadsOn before client (More deeds last deed next lives done) =
       ReadsOn before client lives × HasYet t (machines_then before lives client) client deed last
 
 -- what was written to a client, and what is owed, is what was owed and the replies to it, in order,

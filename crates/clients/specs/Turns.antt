@@ -6,6 +6,7 @@ use Rattle.ledger_http.specs.declared.reply.Reply.{Reply}
 use Rattle.service.specs.Connections.{Connection, connection, Exchange}
 use Rattle.service.specs.ConnectionEvents.{event_in}
 use Rattle.service.specs.Courses.{Event, Course}
+use Rattle.service.specs.InTurn.{InTurn, OfSteps, events_along}
 use Rattle.service.specs.OwnDeeds.{EachSees}
 
 -- what one client has sent that is not answered, and whether another message of it is
@@ -43,13 +44,10 @@ pub record Turn {S C : Type 0} (t : LedgersMeaning S) (gives : C → ℕ → C �
   pub others : (other : ℕ) → other ≢ told.client → new.sent other ≡ old.sent other
 
 -- turns, one after the other
-pub data ClientTurns (S C : Type 0) (t : LedgersMeaning S) (gives : C → ℕ → C → Type 0)
-    (first : Clients S C) : List ToldReply → Clients S C → Type 0 where
-  Nothing : ClientTurns S C t gives first [] first
-  More :
-      (all : List ToldReply) (last : Clients S C) (told : ToldReply) (next : Clients S C) →
-      ClientTurns S C t gives first all last → Turn t gives last told next →
-      ClientTurns S C t gives first (all ++ told ∷ []) next
+abbrev pub ClientTurns :
+    (S C : Type 0) → LedgersMeaning S → (C → ℕ → C → Type 0) → Clients S C → List ToldReply
+    → Clients S C → Type 0
+ClientTurns S C t gives = InTurn (Clients S C) ToldReply (Turn t gives)
 
 -- the replies to one client
 abbrev pub if_told : ℕ → ToldReply → List Reply
@@ -62,19 +60,16 @@ told_to client all = flat_map (if_told client) all
 abbrev pub events_in_turns :
     {S C : Type 0} {t : LedgersMeaning S} {gives : C → ℕ → C → Type 0} {first last : Clients S C}
     {all : List ToldReply} → ClientTurns S C t gives first all last → List Event
-events_in_turns Nothing = []
-events_in_turns (More all last told next turns turn) =
-    events_in_turns turns ++ event_in told.reply turn.exchange.by
+events_in_turns {t} {gives} =
+    events_along {Steps = Turn t gives} (λ old told new turn. event_in told.reply turn.exchange.by)
 
 -- this is so of the events of all turns, as long as the ledgers are live
 abbrev pub OfTurns :
     {S C : Type 0} → LedgersMeaning S → (C → ℕ → C → Type 0)
     → (Tenants → List Event → Tenants → Type 0) → Type 0
-OfTurns {S} {C} t gives IsSo =
-    (first last : Clients S C) (all : List ToldReply)
-    (turns : ClientTurns S C t gives first all last)
-    → t.is_live last.ledgers
-    → IsSo (t.tenants first.ledgers) (events_in_turns turns) (t.tenants last.ledgers)
+OfTurns t gives =
+    OfSteps {Steps = Turn t gives} (λ old told new turn. event_in told.reply turn.exchange.by) t
+    (λ clients. clients.ledgers)
 
 -- turns lead every course on that has led to their ledgers, whichever clients they are of
 abbrev pub TurnsLeadOn : {S C : Type 0} → LedgersMeaning S → (C → ℕ → C → Type 0) → Type 0
@@ -100,13 +95,9 @@ pub record HearsFirst {S C : Type 0} (t : LedgersMeaning S) (gives : C → ℕ �
       (connected ledgers_then moments_then new)
 
 -- the messages of one client, one after the other, get one reply each
-pub data Hears (S C : Type 0) (t : LedgersMeaning S) (gives : C → ℕ → C → Type 0) (first : Sent) :
-    List Reply → Sent → Type 0 where
-  Nothing_yet : Hears S C t gives first [] first
-  One_more :
-      (replies : List Reply) (last : Sent) (reply : Reply) (next : Sent) →
-      Hears S C t gives first replies last → HearsFirst t gives last reply next →
-      Hears S C t gives first (replies ++ reply ∷ []) next
+abbrev pub Hears :
+    (S C : Type 0) → LedgersMeaning S → (C → ℕ → C → Type 0) → Sent → List Reply → Sent → Type 0
+Hears S C t gives = InTurn Sent Reply (HearsFirst t gives)
 
 -- each client hears the replies to its own messages, and no others
 abbrev pub HearTheirOwn :

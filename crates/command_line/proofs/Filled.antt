@@ -1,23 +1,24 @@
 -- Where `clap` takes the words, the subcommand that it states is one of ours, with each of its values.
-use Rattle.std.proofs.Common.{◌≡◌, ◌⊎◌, ◌∙◌, ◌==◌, ◌&&◌, ◌||◌, ◌^◌, ℕ, Bool, true, false, List, [], ◌∷◌, length, Option, Some, None, ap, refl, sym, subst, inl, inr, cond, is_some, true≢false, lit<}
+use Rattle.std.proofs.Common.{◌≡◌, ◌⊎◌, ◌∙◌, ◌==◌, ◌&&◌, ◌||◌, ◌^◌, ◌++◌, ℕ, Bool, true, false, List, [], ◌∷◌, length, Option, Some, None, ap, refl, sym, subst, inl, inr, cond, is_some, true≢false}
 use Rattle.std.specs.Prelude.{find, option_map, unwrap_or, codes}
 use Rattle.std.specs.Option.{option_map_or}
 use Rattle.std.specs.Str.{bytes_eq}
+use Rattle.std.proofs.lemmas.Bool.{or_cases}
 use Rattle.std.proofs.lemmas.Slice.Eq.{bytes_eq-Decides}
 use Rattle.clap.specs.Kinds.{Kinds, value_kinds}
 use Rattle.clap.specs.Faults.{entered_fault, fault_of, level_fault, walk_fault}
-use Rattle.clap.specs.Simple.{App, Shape, argument_words, built, built_leaf, entered, filled, help_rule, version_rule, inherited, label_of, marked_built, names_of, rows_at, subcommand_of, with_leaf_noted}
+use Rattle.clap.specs.Simple.{App, Shape, argument_words, built, built_leaf, entered, filled, inherited, label_of, marked_built, names_of, rows_at, subcommand_of, with_leaf_noted}
 use Rattle.clap.specs.ValueTests.{accepts}
 use Rattle.clap.specs.Values.{Accepts, refused_kind}
-use Rattle.clap.specs.Walk.{Row, Rule, Text, answers_to, arg_by_id, first_of, nothing_held, one_of, rows_after, walk, walk_from}
+use Rattle.clap.specs.Walk.{Row, Rule, Text, answers_to, first_of, nothing_held, one_of, rows_after, walk, walk_from}
 use Rattle.clap.specs.declared.builder.value_parser.ValueParser.{ValueParser}
 use Rattle.clap.specs.declared.builder.value_parser.ValueParser.TheVariants as vp
 use Rattle.clap.proofs.ValueTestLemmas.{accepts-Accepts}
-use Rattle.command_line.proofs.Uses.{Each, IsOwn, both_none, each_found, flag_sets, help_sets, option_sets, version_sets}
+use Rattle.command_line.proofs.Uses.{AreOwn, Each, all_own, both_none, each_found}
 use Rattle.command_line.proofs.Walks.{walk_stops}
 use Rattle.command_line.proofs.Levels.{HasValue, Holds, level_holds}
-use Rattle.command_line.specs.Ledgerd.{check_shape, copy_shape, flag_rule, ledgerd_app, limit_rule, lint_shape, migrate_shape, number_rule, option_rule, ports, program, serve_shape, statement_shape, status_shape, stop_shape, tenant_add_shape, tenant_key_shape, tenants_shape, text_rule, version_shape}
-use Rattle.command_line.specs.Values.{HasSomeText, IsFilled, IsFlag, IsFreeNumber, HasNumberBelow}
+use Rattle.command_line.specs.Ledgerd.{check_shape, copy_shape, flag_rule, ledgerd_app, limit_rule, limit_rules, migrate_shape, over_store, ports, program, serve_rules, serve_shape, statement_rules, statement_shape, status_shape, stop_shape, tenant_rules, tenant_shape, tenants_shape, text_rule}
+use Rattle.command_line.specs.Values.{HasNumberBelow, HasSomeText, IsFilled, IsFilledOver, IsFlag, IsFreeNumber}
 use Rattle.command_line.proofs.NumberValues.{signed_number}
 
 -- a subcommand as `clap` builds it
@@ -37,36 +38,9 @@ accepted_value i p t e = go (accepts i p t) refl e
     go true t f = accepts-Accepts i p _ t
     go false t f = absurd (true≢false (sym (ap (λ (l : Kinds). length l == 0) f)))
 
-either_word : (a b : Bool) → (a || b) ≡ true → (a ≡ true) ⊎ (b ≡ true)
-either_word true b e = inl refl
-either_word false b e = inr e
-
 either_left : (a : Bool) → (a || false) ≡ true → a ≡ true
 either_left true e = refl
 either_left false e = e
-
-text_own : (c : List Rule) (name : Text) → arg_by_id c name ≡ Some (filled (text_rule name)) → IsOwn c (filled (text_rule name))
-text_own c name own = record { own = own; sets = option_sets (filled (text_rule name)) refl (lit< tt) }
-
-number_own : (c : List Rule) (name : Text) (numbers : ValueParser) → arg_by_id c name ≡ Some (filled (number_rule name numbers))
-    → IsOwn c (filled (number_rule name numbers))
-number_own c name numbers own = record { own = own; sets = option_sets (filled (number_rule name numbers)) refl (lit< tt) }
-
-option_own : (c : List Rule) (name : Text) → arg_by_id c name ≡ Some (filled (option_rule name)) → IsOwn c (filled (option_rule name))
-option_own c name own = record { own = own; sets = option_sets (filled (option_rule name)) refl (lit< tt) }
-
-limit_own : (c : List Rule) (name : Text) (least most : ℕ) → arg_by_id c name ≡ Some (filled (limit_rule name least most))
-    → IsOwn c (filled (limit_rule name least most))
-limit_own c name least most own = record { own = own; sets = option_sets (filled (limit_rule name least most)) refl (lit< tt) }
-
-flag_own : (c : List Rule) (name : Text) → arg_by_id c name ≡ Some (filled (flag_rule name)) → IsOwn c (filled (flag_rule name))
-flag_own c name own = record { own = own; sets = flag_sets (filled (flag_rule name)) (codes "true") refl refl }
-
-help_own : (c : List Rule) → arg_by_id c (codes "help") ≡ Some (filled help_rule) → IsOwn c (filled help_rule)
-help_own c own = record { own = own; sets = help_sets (filled help_rule) refl }
-
-version_own : (c : List Rule) → arg_by_id c (codes "version") ≡ Some (filled version_rule) → IsOwn c (filled version_rule)
-version_own c own = record { own = own; sets = version_sets (filled version_rule) refl }
 
 -- the value of a text option
 text_at : (rows : List Row) (name : Text) → Holds rows (filled (text_rule name)) → HasSomeText rows name
@@ -91,51 +65,31 @@ flag_at rows name holds = elim holds.known [
   where
     go : (v : HasValue rows (filled (flag_rule name))) → (bytes_eq v.first (codes "true") || bytes_eq v.first (codes "false")) ≡ true
         → (one_of name rows ≡ Some (codes "true")) ⊎ (one_of name rows ≡ Some (codes "false"))
-    go v ok = elim (either_word (bytes_eq v.first (codes "true")) (bytes_eq v.first (codes "false")) ok) [
+    go v ok = elim (or_cases (bytes_eq v.first (codes "true")) (bytes_eq v.first (codes "false")) ok) [
       | inl t ↦ inl (v.read ∙ ap (λ (w : Text). Some w) ((bytes_eq-Decides v.first (codes "true")).0 t))
       | inr f ↦ inr (v.read ∙ ap (λ (w : Text). Some w) ((bytes_eq-Decides v.first (codes "false")).0 f))
     ]
 
-serve_met : (words : List Text) → level_fault (ready serve_shape) [] nothing_held words false [] ≡ []
-    → IsFilled (codes "serve") (rows_after (ready serve_shape).rules [] words)
-serve_met words e =
-    let c = (ready serve_shape).rules in
-    let rows = rows_after c [] words in
-    let own : Each (IsOwn c) c = (
-      text_own c (codes "db") refl,
-      (
-        number_own c (codes "port") ports refl,
-        (
-          option_own c (codes "address") refl,
-          (
-            limit_own c (codes "requests") 0 18446744073709551615 refl,
-            (
-              flag_own c (codes "standby") refl,
-              (
-                limit_own c (codes "clients") 1 100_000 refl,
-                (
-                  limit_own c (codes "room") 3 65_536 refl,
-                  (
-                    limit_own c (codes "idle") 1 86_400 refl,
-                    (
-                      limit_own c (codes "message") 1 3_600 refl,
-                      (limit_own c (codes "reply") 1 3_600 refl, (help_own c refl, tt)),
-                    ),
-                  ),
-                ),
-              ),
-            ),
-          ),
-        ),
-      ),
-    ) in
-    let holds = level_holds (ready serve_shape) words own refl e in
+-- where `clap` takes the words of a command, it is filled
+abbrev Met : Shape → List Text → Type 0
+Met s words = level_fault (ready s) [] nothing_held words false [] ≡ [] → IsFilled s.name (rows_after (ready s).rules [] words)
+
+-- a command over a store is, with what its other options hold
+over_met : (name : Text) (rules : List Rule) (words : List Text) → AreOwn (ready (over_store name rules)).rules
+    → ((rows : List Row) → Each (Holds rows) (ready (over_store name rules)).rules → IsFilledOver name rows) → Met (over_store name rules) words
+over_met name rules words own over e =
+    let s = ready (over_store name rules) in
+    let rows = rows_after s.rules [] words in
+    let holds = level_holds s words (all_own s.rules own) refl e in
+    inr (inr (text_at rows (codes "db") holds.0, over rows holds))
+
+serve_met : (words : List Text) → Met serve_shape words
+serve_met words = over_met (codes "serve") (serve_rules ++ limit_rules) words (refl, refl) (λ rows holds.
     let limits = holds.1.1.1.1.1 in
     let port = holds.1.0.needed refl in
     inl (
       refl,
       record {
-        db = text_at rows (codes "db") holds.0;
         port = signed_number rows (codes "port") port.first port.read (accepted_value false ports port.first port.accepted);
         requests = limit_at rows (codes "requests") 0 18446744073709551615 holds.1.1.1.0;
         standby = flag_at rows (codes "standby") holds.1.1.1.1.0;
@@ -147,147 +101,49 @@ serve_met words e =
           reply = limit_at rows (codes "reply") 1 3_600 limits.1.1.1.1.0;
         };
       },
-    )
-
-tenant_add_met : (words : List Text) → level_fault (ready tenant_add_shape) [] nothing_held words false [] ≡ []
-    → IsFilled (codes "tenant-add") (rows_after (ready tenant_add_shape).rules [] words)
-tenant_add_met words e =
-    let c = (ready tenant_add_shape).rules in
-    let rows = rows_after c [] words in
-    let own : Each (IsOwn c) c =
-    (text_own c (codes "db") refl, (text_own c (codes "name") refl, (option_own c (codes "key") refl, (help_own c refl, tt)))) in
-    let holds = level_holds (ready tenant_add_shape) words own refl e in
-    inr (inl (
-      refl,
-      record {
-        db = text_at rows (codes "db") holds.0;
-        name = text_at rows (codes "name") holds.1.0;
-      },
     ))
 
-tenant_key_met : (words : List Text) → level_fault (ready tenant_key_shape) [] nothing_held words false [] ≡ []
-    → IsFilled (codes "tenant-key") (rows_after (ready tenant_key_shape).rules [] words)
-tenant_key_met words e =
-    let c = (ready tenant_key_shape).rules in
-    let rows = rows_after c [] words in
-    let own : Each (IsOwn c) c =
-    (text_own c (codes "db") refl, (text_own c (codes "name") refl, (option_own c (codes "key") refl, (help_own c refl, tt)))) in
-    let holds = level_holds (ready tenant_key_shape) words own refl e in
-    inr (inr (inl (
-      refl,
-      record {
-        db = text_at rows (codes "db") holds.0;
-        name = text_at rows (codes "name") holds.1.0;
-      },
-    )))
+tenant_add_met : (words : List Text) → Met (tenant_shape (codes "tenant-add")) words
+tenant_add_met words =
+    over_met (codes "tenant-add") tenant_rules words (refl, refl) (λ rows holds. inr (inl (refl, text_at rows (codes "name") holds.1.0)))
 
-tenants_met : (words : List Text) → level_fault (ready tenants_shape) [] nothing_held words false [] ≡ []
-    → IsFilled (codes "tenants") (rows_after (ready tenants_shape).rules [] words)
-tenants_met words e =
-    let c = (ready tenants_shape).rules in
-    let rows = rows_after c [] words in
-    let own : Each (IsOwn c) c = (text_own c (codes "db") refl, (help_own c refl, tt)) in
-    let holds = level_holds (ready tenants_shape) words own refl e in
-    inr (inr (inr (inl (refl, record { db = text_at rows (codes "db") holds.0 }))))
+tenant_key_met : (words : List Text) → Met (tenant_shape (codes "tenant-key")) words
+tenant_key_met words =
+    over_met (codes "tenant-key") tenant_rules words (refl, refl) (λ rows holds. inr (inr (inl (refl, text_at rows (codes "name") holds.1.0))))
 
-status_met : (words : List Text) → level_fault (ready status_shape) [] nothing_held words false [] ≡ []
-    → IsFilled (codes "status") (rows_after (ready status_shape).rules [] words)
-status_met words e =
-    let c = (ready status_shape).rules in
-    let rows = rows_after c [] words in
-    let own : Each (IsOwn c) c = (text_own c (codes "db") refl, (flag_own c (codes "prometheus") refl, (help_own c refl, tt))) in
-    let holds = level_holds (ready status_shape) words own refl e in
-    inr (inr (inr (inr (inl (
-      refl,
-      record { db = text_at rows (codes "db") holds.0; prometheus = flag_at rows (codes "prometheus") holds.1.0 },
-    )))))
+tenants_met : (words : List Text) → Met tenants_shape words
+tenants_met words = over_met (codes "tenants") [] words (refl, refl) (λ rows holds. inr (inr (inr (inl refl))))
 
-stop_met : (words : List Text) → level_fault (ready stop_shape) [] nothing_held words false [] ≡ []
-    → IsFilled (codes "stop") (rows_after (ready stop_shape).rules [] words)
-stop_met words e =
-    let c = (ready stop_shape).rules in
-    let rows = rows_after c [] words in
-    let own : Each (IsOwn c) c = (text_own c (codes "db") refl, (help_own c refl, tt)) in
-    let holds = level_holds (ready stop_shape) words own refl e in
-    inr (inr (inr (inr (inr (inl (refl, record { db = text_at rows (codes "db") holds.0 }))))))
+status_met : (words : List Text) → Met status_shape words
+status_met words = over_met (codes "status") (flag_rule (codes "prometheus") ∷ []) words (refl, refl)
+    (λ rows holds. inr (inr (inr (inr (inl (refl, flag_at rows (codes "prometheus") holds.1.0))))))
 
-statement_met : (words : List Text) → level_fault (ready statement_shape) [] nothing_held words false [] ≡ []
-    → IsFilled (codes "statement") (rows_after (ready statement_shape).rules [] words)
-statement_met words e =
-    let c = (ready statement_shape).rules in
-    let rows = rows_after c [] words in
-    let own : Each (IsOwn c) c = (
-      text_own c (codes "db") refl,
-      (
-        text_own c (codes "tenant") refl,
-        (
-          text_own c (codes "account") refl,
-          (
-            flag_own c (codes "reversed") refl,
-            (
-              option_own c (codes "from") refl,
-              (
-                option_own c (codes "to") refl,
-                (
-                  flag_own c (codes "balances") refl,
-                  (
-                    flag_own c (codes "wide") refl,
-                    (option_own c (codes "format") refl, (help_own c refl, tt)),
-                  ),
-                ),
-              ),
-            ),
-          ),
-        ),
-      ),
-    ) in
-    let holds = level_holds (ready statement_shape) words own refl e in
+stop_met : (words : List Text) → Met stop_shape words
+stop_met words = over_met (codes "stop") [] words (refl, refl) (λ rows holds. inr (inr (inr (inr (inr (inl refl))))))
+
+statement_met : (words : List Text) → Met statement_shape words
+statement_met words = over_met (codes "statement") statement_rules words (refl, refl) (λ rows holds.
     inr (inr (inr (inr (inr (inr (inl (
       refl,
       record {
-        db = text_at rows (codes "db") holds.0;
         tenant = text_at rows (codes "tenant") holds.1.0;
         account = text_at rows (codes "account") holds.1.1.0;
         reversed = flag_at rows (codes "reversed") holds.1.1.1.0;
         balances = flag_at rows (codes "balances") holds.1.1.1.1.1.1.0;
         wide = flag_at rows (codes "wide") holds.1.1.1.1.1.1.1.0;
       },
-    )))))))
+    ))))))))
 
-check_met : (words : List Text) → level_fault (ready check_shape) [] nothing_held words false [] ≡ []
-    → IsFilled (codes "check") (rows_after (ready check_shape).rules [] words)
-check_met words e =
-    let c = (ready check_shape).rules in
-    let rows = rows_after c [] words in
-    let own : Each (IsOwn c) c = (text_own c (codes "db") refl, (help_own c refl, tt)) in
-    let holds = level_holds (ready check_shape) words own refl e in
-    inr (inr (inr (inr (inr (inr (inr (inl (refl, record { db = text_at rows (codes "db") holds.0 }))))))))
+check_met : (words : List Text) → Met check_shape words
+check_met words = over_met (codes "check") [] words (refl, refl) (λ rows holds. inr (inr (inr (inr (inr (inr (inr (inl refl))))))))
 
-migrate_met : (words : List Text) → level_fault (ready migrate_shape) [] nothing_held words false [] ≡ []
-    → IsFilled (codes "migrate") (rows_after (ready migrate_shape).rules [] words)
-migrate_met words e =
-    let c = (ready migrate_shape).rules in
-    let rows = rows_after c [] words in
-    let own : Each (IsOwn c) c = (text_own c (codes "db") refl, (text_own c (codes "to") refl, (help_own c refl, tt))) in
-    let holds = level_holds (ready migrate_shape) words own refl e in
-    inr (inr (inr (inr (inr (inr (inr (inr (inl (refl, record { db = text_at rows (codes "db") holds.0; to = text_at rows (codes "to") holds.1.0 })))))))))
+migrate_met : (words : List Text) → Met migrate_shape words
+migrate_met words = over_met (codes "migrate") (text_rule (codes "to") ∷ []) words (refl, refl)
+    (λ rows holds. inr (inr (inr (inr (inr (inr (inr (inr (inl (refl, text_at rows (codes "to") holds.1.0))))))))))
 
-copy_met : (words : List Text) → level_fault (ready copy_shape) [] nothing_held words false [] ≡ []
-    → IsFilled (codes "copy") (rows_after (ready copy_shape).rules [] words)
-copy_met words e =
-    let c = (ready copy_shape).rules in
-    let rows = rows_after c [] words in
-    let own : Each (IsOwn c) c = (text_own c (codes "db") refl, (text_own c (codes "to") refl, (help_own c refl, tt))) in
-    let holds = level_holds (ready copy_shape) words own refl e in
-    inr (inr (inr (inr (inr (inr (inr (inr (inr (inl (refl, record { db = text_at rows (codes "db") holds.0; to = text_at rows (codes "to") holds.1.0 }))))))))))
-
-lint_met : (words : List Text) → level_fault (ready lint_shape) [] nothing_held words false [] ≡ []
-    → IsFilled (codes "lint") (rows_after (ready lint_shape).rules [] words)
-lint_met words e = inr (inr (inr (inr (inr (inr (inr (inr (inr (inr (inl refl))))))))))
-
-version_met : (words : List Text) → level_fault (ready version_shape) [] nothing_held words false [] ≡ []
-    → IsFilled (codes "version") (rows_after (ready version_shape).rules [] words)
-version_met words e = inr (inr (inr (inr (inr (inr (inr (inr (inr (inr (inr refl))))))))))
+copy_met : (words : List Text) → Met copy_shape words
+copy_met words = over_met (codes "copy") (text_rule (codes "to") ∷ []) words (refl, refl)
+    (λ rows holds. inr (inr (inr (inr (inr (inr (inr (inr (inr (refl, text_at rows (codes "to") holds.1.0))))))))))
 
 -- the subcommand that a walk stopped at is filled
 StopsAt : Text → List Text → Shape → Type 0
@@ -334,7 +190,7 @@ stops_at_one name words other = (
                   λ a e. migrate_met words e,
                   (
                     λ a e. copy_met words e,
-                    (λ a e. lint_met words e, (λ a e. version_met words e, (λ a e. absurd (help_is name other a), tt))),
+                    (λ a e. inl refl, (λ a e. inr (inl refl), (λ a e. absurd (help_is name other a), tt))),
                   ),
                 ),
               ),
@@ -371,6 +227,6 @@ filled_from words fault met is =
     let stop = (walk a.top.rules (names_of a) nothing_held (argument_words ledgerd_app words)).stopped in
     let walk_part = both_none (walk_fault a.top (names_of a) (walk_from nothing_held) (argument_words ledgerd_app words)) _ fault in
     let entered_part = both_none (entered_fault a stop) _ walk_part.1 in
-    let own : Each (IsOwn a.top.rules) a.top.rules = (help_own a.top.rules refl, (version_own a.top.rules refl, tt)) in
+    let own = all_own a.top.rules (refl, refl) in
     let stops = walk_stops a.top (names_of a) own (argument_words ledgerd_app words) (walk_from nothing_held) walk_part.0 (λ q e. absurd (true≢false (sym (ap is_some e)))) in
     entered_filled a stop met (λ q e. stops_at_one q.0 q.1 (stops q e)) entered_part.0 is

@@ -1,6 +1,8 @@
 -- What the rows of a parse hold after one use of an argument that `clap` takes.
-use Rattle.std.proofs.Common.{◌≡◌, ◌∙◌, ◌++◌, ◌==◌, ◌<◌, ℕ, Bool, true, false, List, [], ◌∷◌, length, Option, Some, None, ap, refl, sym, subst, cond, true≢false, lt-ltb}
+use Rattle.std.proofs.Common.{◌≡◌, ◌∙◌, ◌++◌, ◌==◌, ◌<◌, ℕ, Bool, true, false, List, [], ◌∷◌, length, map, Option, Some, None, ap, refl, sym, subst, cond, true≢false, arith, eqb-true, ltb-true, lt-ltb}
 use Rattle.std.specs.Prelude.{find, unwrap_or, nat_lt}
+use Rattle.std.specs.List.{list_all}
+use Rattle.std.proofs.lemmas.Bool.{and_parts}
 use Rattle.clap.specs.declared.error.kind.ErrorKind.TheVariants.{InvalidValue}
 use Rattle.std.specs.Str.{bytes_eq}
 use Rattle.clap.specs.Facts.{parser_of_value, unwrap_or_range}
@@ -164,3 +166,40 @@ version_sets a is again values rows e =
     let act : action_fault (action_of a) again a (values_or_missing a values) rows ≡ [] = (both_none (range_kinds (unwrap_or_range a.range).start_inclusive (most_values a) (length values)) _ e).1 in
     let at : action_fault Version again a (values_or_missing a values) rows ≡ [] = subst (λ (x : ArgAction). action_fault x again a (values_or_missing a values) rows ≡ []) is act in
     cc
+
+-- the uses of an argument with this action set its row
+abbrev pub is_setting : ArgAction → Rule → Bool
+is_setting Set a = nat_lt 0 (unwrap_or_range a.range).start_inclusive
+is_setting SetTrue a = length a.missing == 1
+is_setting Help a = true
+is_setting Version a = true
+is_setting _ a = false
+
+one_word : (a : Rule) (words : List Text) → action_of a ≡ SetTrue → a.missing ≡ words → (length words == 1) ≡ true → Sets a
+one_word a [] is stands e = absurd (true≢false (sym e))
+one_word a (w ∷ []) is stands e = flag_sets a w is stands
+one_word a (w ∷ v ∷ words) is stands e = absurd (omega (arith, eqb-true _ _ e))
+
+action_sets : (x : ArgAction) (a : Rule) → action_of a ≡ x → is_setting x a ≡ true → Sets a
+action_sets Set a is e = option_sets a is (ltb-true _ _ e)
+action_sets SetTrue a is e = one_word a a.missing is refl e
+action_sets Help a is e = help_sets a is
+action_sets Version a is e = version_sets a is
+action_sets _ a is e = absurd (true≢false (sym e))
+
+each_own : (c xs : List Rule) → map (λ a. arg_by_id c a.id) xs ≡ map (λ a. Some a) xs → list_all (λ a. is_setting (action_of a) a) xs ≡ true
+    → Each (IsOwn c) xs
+each_own c [] found setting = tt
+each_own c (a ∷ xs) found setting =
+    let parts = and_parts (is_setting (action_of a) a) (list_all (λ a. is_setting (action_of a) a) xs) setting in
+    let both : arg_by_id c a.id ∷ map (λ a. arg_by_id c a.id) xs ≡ Some a ∷ map (λ a. Some a) xs = found in
+    let first : arg_by_id c a.id ≡ Some a = cc in
+    let rest : map (λ a. arg_by_id c a.id) xs ≡ map (λ a. Some a) xs = cc in
+    (record { own = first; sets = action_sets (action_of a) a refl parts.0 }, each_own c xs rest parts.1)
+
+-- each argument of a command is found by its id, and its uses set its row
+abbrev pub AreOwn : List Rule → Type 0
+AreOwn c = (map (λ a. arg_by_id c a.id) c ≡ map (λ a. Some a) c) × (list_all (λ a. is_setting (action_of a) a) c ≡ true)
+
+pub all_own : (c : List Rule) → AreOwn c → Each (IsOwn c) c
+all_own c own = each_own c c own.0 own.1

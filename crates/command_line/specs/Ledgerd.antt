@@ -1,5 +1,5 @@
 -- The command line as `clap`'s rules see it.
-use Rattle.std.specs.Prelude.{ℕ, List, Some, codes, pos, true, ◌∷◌, []}
+use Rattle.std.specs.Prelude.{ℕ, List, Some, codes, pos, true, ◌++◌, ◌∷◌, []}
 use Rattle.clap.specs.Words.{App, Rule, Shape, Text, new_app, new_rule, with_subcommand}
 use Rattle.clap.specs.declared.builder.action.ArgAction.TheVariants.{SetTrue}
 use Rattle.clap.specs.declared.builder.value_parser.ValueParser.{ValueParser}
@@ -45,31 +45,30 @@ over_store name rules = record (new_app name).top { rules = db_rule ∷ rules }
 abbrev pub store_app : Text → App
 store_app name = record (new_app name) { top = over_store name [] }
 
--- serve: a port, an address, how many requests to answer, and whether it waits for the file
+-- where to serve, and how long: a port, an address, how many requests to answer, and whether it waits for the file
+abbrev pub serve_rules : List Rule
+serve_rules = number_rule (codes "port") ports ∷ option_rule (codes "address") ∷ requests_rule
+    ∷ flag_rule (codes "standby") ∷ []
+
 abbrev pub counted_serve_app : App
-counted_serve_app = record (new_app (codes "serve")) {
-  top = over_store (codes "serve")
-      (number_rule (codes "port") ports ∷ option_rule (codes "address") ∷ requests_rule
-      ∷ flag_rule (codes "standby") ∷ []);
-}
+counted_serve_app = record (new_app (codes "serve")) { top = over_store (codes "serve") serve_rules }
 
--- and then the limits: clients, megabytes for long messages, and seconds
-abbrev pub serve_shape : Shape
-serve_shape = over_store (codes "serve")
-    (number_rule (codes "port") ports ∷ option_rule (codes "address") ∷ requests_rule
-    ∷ flag_rule (codes "standby") ∷ limit_rule (codes "clients") 1 100_000 ∷ limit_rule (codes "room") 3 65_536
+-- the limits: clients, megabytes for long messages, and seconds
+abbrev pub limit_rules : List Rule
+limit_rules = limit_rule (codes "clients") 1 100_000 ∷ limit_rule (codes "room") 3 65_536
     ∷ limit_rule (codes "idle") 1 86_400 ∷ limit_rule (codes "message") 1 3_600
-    ∷ limit_rule (codes "reply") 1 3_600 ∷ [])
+    ∷ limit_rule (codes "reply") 1 3_600 ∷ []
 
--- tenant-add: the tenant's name, and its key if it is not to be drawn
-abbrev pub tenant_add_shape : Shape
-tenant_add_shape = over_store (codes "tenant-add")
-    (text_rule (codes "name") ∷ option_rule (codes "key") ∷ [])
+-- serve: all of these
+abbrev pub serve_shape : Shape
+serve_shape = over_store (codes "serve") (serve_rules ++ limit_rules)
 
--- tenant-key: the tenant's name, and its new key likewise
-abbrev pub tenant_key_shape : Shape
-tenant_key_shape = over_store (codes "tenant-key")
-    (text_rule (codes "name") ∷ option_rule (codes "key") ∷ [])
+-- a command about a tenant, such as tenant-add and tenant-key: its name, and its key if it is not to be drawn
+abbrev pub tenant_rules : List Rule
+tenant_rules = text_rule (codes "name") ∷ option_rule (codes "key") ∷ []
+
+abbrev pub tenant_shape : Text → Shape
+tenant_shape name = over_store name tenant_rules
 
 -- tenants: nothing but the file
 abbrev pub tenants_shape : Shape
@@ -83,20 +82,23 @@ status_shape = over_store (codes "status") (flag_rule (codes "prometheus") ∷ [
 abbrev pub stop_shape : Shape
 stop_shape = over_store (codes "stop") []
 
--- statement: a tenant, its account, and whether the newest come first
+-- what a statement must have, a tenant and its account, and whether the newest come first
+abbrev pub whole_statement_rules : List Rule
+whole_statement_rules = text_rule (codes "tenant") ∷ text_rule (codes "account")
+    ∷ flag_rule (codes "reversed") ∷ []
+
 abbrev pub whole_statement_app : App
 whole_statement_app = record (new_app (codes "statement")) {
-  top = over_store (codes "statement")
-      (text_rule (codes "tenant") ∷ text_rule (codes "account") ∷ flag_rule (codes "reversed") ∷ []);
+  top = over_store (codes "statement") whole_statement_rules;
 }
 
--- and then the bounds of a period, what else is told, and in which form
+-- statement: this, the bounds of a period, what else is told, and in which form
+abbrev pub statement_rules : List Rule
+statement_rules = whole_statement_rules ++ option_rule (codes "from") ∷ option_rule (codes "to")
+    ∷ flag_rule (codes "balances") ∷ flag_rule (codes "wide") ∷ option_rule (codes "format") ∷ []
+
 abbrev pub statement_shape : Shape
-statement_shape = over_store (codes "statement")
-    (text_rule (codes "tenant") ∷ text_rule (codes "account") ∷ flag_rule (codes "reversed")
-    ∷ option_rule (codes "from") ∷ option_rule (codes "to")
-    ∷ flag_rule (codes "balances") ∷ flag_rule (codes "wide")
-    ∷ option_rule (codes "format") ∷ [])
+statement_shape = over_store (codes "statement") statement_rules
 
 -- check: nothing but the file
 abbrev pub check_shape : Shape
@@ -138,6 +140,6 @@ ledgerd_app =
     (with_subcommand
     (with_subcommand
     (with_subcommand
-    (with_subcommand program serve_shape) tenant_add_shape) tenant_key_shape) tenants_shape)
-    status_shape) stop_shape) statement_shape) check_shape) migrate_shape) copy_shape) lint_shape)
+    (with_subcommand program serve_shape) (tenant_shape (codes "tenant-add"))) (tenant_shape (codes "tenant-key")))
+    tenants_shape) status_shape) stop_shape) statement_shape) check_shape) migrate_shape) copy_shape) lint_shape)
     version_shape

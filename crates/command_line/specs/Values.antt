@@ -67,53 +67,36 @@ pub record FillsLimits (rows : List Row) : Type 0 where
   pub message : IsFreeNumber rows (codes "message")
   pub reply : IsFreeNumber rows (codes "reply")
 
--- the values of serve are there
+-- the values of serve are there, beside the file
 pub record FillsServe (rows : List Row) : Type 0 where
-  pub db : HasSomeText rows (codes "db")
   pub port : HasNumberBelow rows (codes "port") (2 ^ 16)
   pub requests : IsFreeNumber rows (codes "requests")
   pub standby : IsFlag rows (codes "standby")
   pub limits : FillsLimits rows
 
--- the values are there that tenant-add must have, or tenant-key
-pub record FillsTenant (rows : List Row) : Type 0 where
-  pub db : HasSomeText rows (codes "db")
-  pub name : HasSomeText rows (codes "name")
-
--- the values of status are there
-pub record FillsStatus (rows : List Row) : Type 0 where
-  pub db : HasSomeText rows (codes "db")
-  pub prometheus : IsFlag rows (codes "prometheus")
-
--- the values of statement are there
+-- the values of statement are
 pub record FillsStatement (rows : List Row) : Type 0 where
-  pub db : HasSomeText rows (codes "db")
   pub tenant : HasSomeText rows (codes "tenant")
   pub account : HasSomeText rows (codes "account")
   pub reversed : IsFlag rows (codes "reversed")
   pub balances : IsFlag rows (codes "balances")
   pub wide : IsFlag rows (codes "wide")
 
--- the file is there of a command that has nothing else
-pub record FillsFile (rows : List Row) : Type 0 where
-  pub db : HasSomeText rows (codes "db")
-
--- the values of migrate are there, or of copy
-pub record FillsTo (rows : List Row) : Type 0 where
-  pub db : HasSomeText rows (codes "db")
-  pub to : HasSomeText rows (codes "to")
+-- the name is that of a command over a store, and each value is there that it must have beside the file
+abbrev pub IsFilledOver : Text → List Row → Type 0
+IsFilledOver name rows = ((name ≡ codes "serve") × FillsServe rows)
+    ⊎ (((name ≡ codes "tenant-add") × HasSomeText rows (codes "name"))
+    ⊎ (((name ≡ codes "tenant-key") × HasSomeText rows (codes "name"))
+    ⊎ ((name ≡ codes "tenants")
+    ⊎ (((name ≡ codes "status") × IsFlag rows (codes "prometheus"))
+    ⊎ ((name ≡ codes "stop")
+    ⊎ (((name ≡ codes "statement") × FillsStatement rows)
+    ⊎ ((name ≡ codes "check")
+    ⊎ (((name ≡ codes "migrate") × HasSomeText rows (codes "to"))
+    ⊎ ((name ≡ codes "copy") × HasSomeText rows (codes "to"))))))))))
 
 -- the name is a command's, and each value is there that it must have
 abbrev pub IsFilled : Text → List Row → Type 0
-IsFilled name rows = ((name ≡ codes "serve") × FillsServe rows)
-    ⊎ (((name ≡ codes "tenant-add") × FillsTenant rows)
-    ⊎ (((name ≡ codes "tenant-key") × FillsTenant rows)
-    ⊎ (((name ≡ codes "tenants") × FillsFile rows)
-    ⊎ (((name ≡ codes "status") × FillsStatus rows)
-    ⊎ (((name ≡ codes "stop") × FillsFile rows)
-    ⊎ (((name ≡ codes "statement") × FillsStatement rows)
-    ⊎ (((name ≡ codes "check") × FillsFile rows)
-    ⊎ (((name ≡ codes "migrate") × FillsTo rows)
-    ⊎ (((name ≡ codes "copy") × FillsTo rows)
-    ⊎ ((name ≡ codes "lint")
-    ⊎ (name ≡ codes "version")))))))))))
+IsFilled name rows = (name ≡ codes "lint")
+    ⊎ ((name ≡ codes "version")
+    ⊎ (HasSomeText rows (codes "db") × IsFilledOver name rows))

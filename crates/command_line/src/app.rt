@@ -4,8 +4,8 @@ ghost use Rattle.command_line.specs.Ledgerd.{check_shape, copy_shape, counted_se
 ghost use Rattle.command_line.specs.Ledgerd.{ledgerd_app, limit_rule, lint_shape, migrate_shape};
 ghost use Rattle.command_line.specs.Ledgerd.{number_rule, option_rule, program, serve_shape};
 ghost use Rattle.command_line.specs.Ledgerd.{statement_shape, status_shape, stop_shape, store_app};
-ghost use Rattle.command_line.specs.Ledgerd.{tenant_add_shape, tenant_key_shape, tenants_shape};
-ghost use Rattle.command_line.specs.Ledgerd.{text_rule, version_shape, whole_statement_app};
+ghost use Rattle.command_line.specs.Ledgerd.{tenant_shape, tenants_shape, text_rule};
+ghost use Rattle.command_line.specs.Ledgerd.{version_shape, whole_statement_app};
 ghost use Rattle.command_line.specs.Built.{IsLeaf, IsLocalArg, IsProgram};
 
 use crate::{LEAST_ROOM, version_text};
@@ -42,7 +42,11 @@ static COPY_HELP: &str = "Where the copy is to stand; nothing may be there, nor 
 
 static NAME_HELP: &str = "The tenant's name, 1 to 64 ASCII letters, digits or -, e.g. north-desk";
 
+static ADD_ABOUT: &str = "Add a tenant; an absent or empty file becomes a new store";
+
 static KEY_HELP: &str = "The tenant's key, 64 hexadecimal digits, or - [default: one is drawn]";
+
+static OTHER_KEY_ABOUT: &str = "Give a tenant another key; the one before is no longer good";
 
 static OTHER_KEY_HELP: &str =
     "The tenant's new key, 64 hexadecimal digits, or - [default: one is drawn]";
@@ -164,24 +168,19 @@ fn serve_command<'a>(alloc: Global) -> Result<clap::Command<'a>, AllocError>
         .arg(limit_option(alloc, "reply", 1, 3_600, REPLY_HELP))
 }
 
-fn tenant_add_command<'a>(alloc: Global) -> Result<clap::Command<'a>, AllocError>
-    ensures { IfOk result (IsLeaf tenant_add_shape) }
+// A command about a tenant, whose key it takes.
+fn tenant_command<'a>(
+    alloc: Global,
+    name: &'a str,
+    about: &'a str,
+    key: &'a str,
+) -> Result<clap::Command<'a>, AllocError>
+    ensures { IfOk result (IsLeaf (tenant_shape name.entry.now)) }
 {
-    let about = "Add a tenant; an absent or empty file becomes a new store";
-    store_command(alloc, "tenant-add", about)?
+    store_command(alloc, name, about)?
         .after_help(KEYS_HELP)
         .arg(text_option(alloc, "name", "NAME", NAME_HELP))?
-        .arg(free_option(alloc, "key", "HEX", KEY_HELP))
-}
-
-fn tenant_key_command<'a>(alloc: Global) -> Result<clap::Command<'a>, AllocError>
-    ensures { IfOk result (IsLeaf tenant_key_shape) }
-{
-    let about = "Give a tenant another key; the one before is no longer good";
-    store_command(alloc, "tenant-key", about)?
-        .after_help(KEYS_HELP)
-        .arg(text_option(alloc, "name", "NAME", NAME_HELP))?
-        .arg(free_option(alloc, "key", "HEX", OTHER_KEY_HELP))
+        .arg(free_option(alloc, "key", "HEX", key))
 }
 
 fn tenants_command<'a>(alloc: Global) -> Result<clap::Command<'a>, AllocError>
@@ -316,8 +315,8 @@ pub fn ledgerd_command<'a>(alloc: Global) -> Result<clap::Command<'a>, AllocErro
 {
     named_command(alloc)?
         .subcommand(serve_command(alloc)?)?
-        .subcommand(tenant_add_command(alloc)?)?
-        .subcommand(tenant_key_command(alloc)?)?
+        .subcommand(tenant_command(alloc, "tenant-add", ADD_ABOUT, KEY_HELP)?)?
+        .subcommand(tenant_command(alloc, "tenant-key", OTHER_KEY_ABOUT, OTHER_KEY_HELP)?)?
         .subcommand(tenants_command(alloc)?)?
         .subcommand(status_command(alloc)?)?
         .subcommand(stop_command(alloc)?)?

@@ -3,10 +3,9 @@ ghost use Rattle.clap.specs.Words.{found_of, rows_of, takes};
 ghost use Rattle.command_line.specs.Ledgerd.{ledgerd_app};
 ghost use Rattle.command_line.specs.Line.{IsCommandOf, IsFaultOf, Spells, SpellsLimits};
 ghost use Rattle.command_line.specs.Line.{SpellsStatement};
-ghost use Rattle.command_line.specs.Values.{FillsFile, FillsLimits, FillsTo, FillsServe};
-ghost use Rattle.command_line.specs.Values.{FillsStatement, FillsStatus, FillsTenant, HasNumber};
-ghost use Rattle.command_line.specs.Values.{HasFreeNumber, HasFreeText, HasNumberBelow, HasNumberOr};
-ghost use Rattle.command_line.specs.Values.{HasSomeText, HasText, IsFilled, IsFlag, IsFreeNumber};
+ghost use Rattle.command_line.specs.Values.{FillsLimits, FillsServe, HasFreeNumber, HasFreeText};
+ghost use Rattle.command_line.specs.Values.{HasNumber, HasNumberBelow, HasNumberOr, HasSomeText};
+ghost use Rattle.command_line.specs.Values.{HasText, IsFilled, IsFilledOver, IsFlag, IsFreeNumber};
 ghost use Rattle.command_line.specs.Values.{has_flag, text_in};
 
 use crate::app::ledgerd_command;
@@ -69,70 +68,13 @@ fn limit_words(values: &ArgMatches<'_>) -> LimitWords
     }
 }
 
-fn serve<'a>(values: &ArgMatches<'a>) -> Command<'a>
-    requires { FillsServe (rows_of (found_of values.now)) }
-    ensures { Spells (codes "serve") (rows_of (found_of values.now)) result }
+// The tenant of a command, and the key that was given.
+fn tenant_and_key<'a>(values: &ArgMatches<'a>) -> (&'a str, Option<&'a str>)
+    requires { HasSomeText (rows_of (found_of values.now)) (codes "name") }
+    ensures name { HasText (rows_of (found_of values.now)) (codes "name") result.0.now }
+    ensures key { HasFreeText (rows_of (found_of values.now)) (codes "key") (text_in result.1) }
 {
-    Command::Serve {
-        db: text(values, "db"),
-        address: free_text(values, "address"),
-        port: port(values),
-        requests: requests(values),
-        standby: is_set(values, "standby"),
-        limits: limit_words(values),
-    }
-}
-
-fn add_tenant<'a>(values: &ArgMatches<'a>) -> Command<'a>
-    requires { FillsTenant (rows_of (found_of values.now)) }
-    ensures { Spells (codes "tenant-add") (rows_of (found_of values.now)) result }
-{
-    Command::AddTenant {
-        db: text(values, "db"),
-        name: text(values, "name"),
-        key: free_text(values, "key"),
-    }
-}
-
-fn change_key<'a>(values: &ArgMatches<'a>) -> Command<'a>
-    requires { FillsTenant (rows_of (found_of values.now)) }
-    ensures { Spells (codes "tenant-key") (rows_of (found_of values.now)) result }
-{
-    let name = text(values, "name");
-    let key = free_text(values, "key");
-    Command::ChangeKey {
-        db: text(values, "db"),
-        name,
-        key,
-    }
-}
-
-fn tenants<'a>(values: &ArgMatches<'a>) -> Command<'a>
-    requires { FillsFile (rows_of (found_of values.now)) }
-    ensures { Spells (codes "tenants") (rows_of (found_of values.now)) result }
-{
-    Command::Tenants {
-        db: text(values, "db"),
-    }
-}
-
-fn status<'a>(values: &ArgMatches<'a>) -> Command<'a>
-    requires { FillsStatus (rows_of (found_of values.now)) }
-    ensures { Spells (codes "status") (rows_of (found_of values.now)) result }
-{
-    Command::Status {
-        db: text(values, "db"),
-        prometheus: is_set(values, "prometheus"),
-    }
-}
-
-fn stop<'a>(values: &ArgMatches<'a>) -> Command<'a>
-    requires { FillsFile (rows_of (found_of values.now)) }
-    ensures { Spells (codes "stop") (rows_of (found_of values.now)) result }
-{
-    Command::Stop {
-        db: text(values, "db"),
-    }
+    (text(values, "name"), free_text(values, "key"))
 }
 
 fn statement_words<'a>(values: &ArgMatches<'a>) -> StatementWords<'a>
@@ -151,52 +93,59 @@ fn statement_words<'a>(values: &ArgMatches<'a>) -> StatementWords<'a>
     }
 }
 
-fn statement<'a>(values: &ArgMatches<'a>) -> Command<'a>
-    requires { FillsStatement (rows_of (found_of values.now)) }
-    ensures { Spells (codes "statement") (rows_of (found_of values.now)) result }
+fn serve<'a>(db: &'a str, values: &ArgMatches<'a>) -> Command<'a>
+    requires db { HasText (rows_of (found_of values.now)) (codes "db") db.now }
+    requires filled { FillsServe (rows_of (found_of values.now)) }
+    ensures { Spells (codes "serve") (rows_of (found_of values.now)) result }
 {
-    Command::Statement {
-        db: text(values, "db"),
-        tenant: text(values, "tenant"),
-        account: text(values, "account"),
-        asked: statement_words(values),
+    Command::Serve {
+        db,
+        address: free_text(values, "address"),
+        port: port(values),
+        requests: requests(values),
+        standby: is_set(values, "standby"),
+        limits: limit_words(values),
     }
 }
 
-fn check<'a>(values: &ArgMatches<'a>) -> Command<'a>
-    requires { FillsFile (rows_of (found_of values.now)) }
-    ensures { Spells (codes "check") (rows_of (found_of values.now)) result }
+// The command of this name over the store in the file `db`.
+fn over_store<'a>(name: &str, db: &'a str, values: &ArgMatches<'a>) -> Command<'a>
+    requires db { HasText (rows_of (found_of values.now)) (codes "db") db.now }
+    requires filled { IsFilledOver name.now (rows_of (found_of values.now)) }
+    ensures { Spells name.now (rows_of (found_of values.now)) result }
 {
-    Command::Check {
-        db: text(values, "db"),
-    }
-}
-
-fn migrate<'a>(values: &ArgMatches<'a>) -> Command<'a>
-    requires { FillsTo (rows_of (found_of values.now)) }
-    ensures { Spells (codes "migrate") (rows_of (found_of values.now)) result }
-{
-    Command::Migrate {
-        db: text(values, "db"),
-        to: text(values, "to"),
-    }
-}
-
-fn copy<'a>(values: &ArgMatches<'a>) -> Command<'a>
-    requires { FillsTo (rows_of (found_of values.now)) }
-    ensures { Spells (codes "copy") (rows_of (found_of values.now)) result }
-{
-    Command::Copy {
-        db: text(values, "db"),
-        to: text(values, "to"),
-    }
-}
-
-fn lint<'a>(values: &ArgMatches<'a>) -> Command<'a>
-    ensures { Spells (codes "lint") (rows_of (found_of values.now)) result }
-{
-    Command::Lint {
-        route: free_text(values, "route"),
+    match name {
+        "serve" => serve(db, values),
+        "tenant-add" => {
+            let (name, key) = tenant_and_key(values);
+            Command::AddTenant { db, name, key }
+        }
+        "tenant-key" => {
+            let (name, key) = tenant_and_key(values);
+            Command::ChangeKey { db, name, key }
+        }
+        "tenants" => Command::Tenants { db },
+        "status" => Command::Status {
+            db,
+            prometheus: is_set(values, "prometheus"),
+        },
+        "stop" => Command::Stop { db },
+        "statement" => Command::Statement {
+            db,
+            tenant: text(values, "tenant"),
+            account: text(values, "account"),
+            asked: statement_words(values),
+        },
+        "check" => Command::Check { db },
+        "migrate" => Command::Migrate {
+            db,
+            to: text(values, "to"),
+        },
+        "copy" => Command::Copy {
+            db,
+            to: text(values, "to"),
+        },
+        _ => unreachable!(),
     }
 }
 
@@ -205,19 +154,11 @@ fn named<'a>(name: &str, values: &ArgMatches<'a>) -> Command<'a>
     ensures { Spells name.now (rows_of (found_of values.now)) result }
 {
     match name {
-        "serve" => serve(values),
-        "tenant-add" => add_tenant(values),
-        "tenant-key" => change_key(values),
-        "tenants" => tenants(values),
-        "status" => status(values),
-        "stop" => stop(values),
-        "statement" => statement(values),
-        "check" => check(values),
-        "migrate" => migrate(values),
-        "copy" => copy(values),
-        "lint" => lint(values),
+        "lint" => Command::Lint {
+            route: free_text(values, "route"),
+        },
         "version" => Command::Version,
-        _ => unreachable!(),
+        _ => over_store(name, text(values, "db"), values),
     }
 }
 

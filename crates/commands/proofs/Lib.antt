@@ -1,6 +1,5 @@
 mod ServingLemmas
-mod AddLemmas
-mod KeyLemmas
+mod ChangeLemmas
 pub mod PieceLemmas
 mod OrderLemmas
 mod BehindLemmas

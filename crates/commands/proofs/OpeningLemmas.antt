@@ -1,5 +1,5 @@
 -- What a refused opening has found, where the program tells its fault.
-use Rattle.std.proofs.Common.{◌≡◌, ◌⊎◌, inl, inr, IfErr, MatchResult, Option, None, Some, Result, Ok, Err, refl, subst, sym}
+use Rattle.std.proofs.Common.{◌≡◌, inl, inr, IfErr, MatchResult, Option, None, Some, Result, Ok, Err, refl, subst, sym}
 use Rattle.std.proofs.Math.Logic.{∥∥₁_map₂}
 use Rattle.std.specs.Result.{IsErrAnd}
 use Rattle.sqlite_disk.specs.declared.Disk as disk
@@ -8,19 +8,16 @@ use Rattle.sqlite_wal.specs.Reads.{AreClean}
 use Rattle.sqlite_wal.specs.Recovery.{Image}
 use Rattle.sqlite.specs.Effect.{Database}
 use Rattle.sqlite.specs.Files.{image_of}
-use Rattle.audit.specs.declared.damage.Damage.{Damage}
 use Rattle.openings.specs.AtPath.{LeavesPath}
 use Rattle.openings.specs.Found.{FilesStay, FindsOne, IsOfLedger, AreOnlyThere, Yields}
 use Rattle.openings.specs.Refused.{RefusesToMake}
-use Rattle.openings.specs.Told.{IsToldBy, IsToldOfMaking, Warrants}
+use Rattle.openings.specs.Told.{HindersMaking, IsToldBy, IsToldOfMaking, Warrants}
 use Rattle.openings.specs.declared.opening.OpenFault.{OpenFault}
 use Rattle.openings.specs.declared.opening.OpenFault.TheVariants as opening
-use Rattle.migrate.specs.Ledgers.{RefusesFiles}
-use Rattle.migrate.specs.Told.{TellsAny}
 use Rattle.store.specs.Refused.{RefusesToOpen}
 use Rattle.command_texts.specs.declared.fault.Fault.{Fault}
 use Rattle.commands.specs.Openings.{HasFound, HasFoundSome, IsFoundFault, IsFoundSo}
-use Rattle.commands.specs.Openings.{RefusesImage, RefusesOlder, open_fault}
+use Rattle.commands.specs.Openings.{RefusesImage, open_fault}
 
 module _ (Finds : OpenFault → Type 0) where
   -- what was found where an opening told it was found where the program tells it
@@ -32,16 +29,6 @@ module _ (Finds : OpenFault → Type 0) where
   found_so opening.NewerSchema found = found
   found_so (opening.Damaged damage) found = (damage, found)
   found_so (opening.Unavailable why) found = tt
-
-  -- of what speaks of no ledger nothing has to be found
-  pub none_found : (fault : OpenFault) → (IsOfLedger fault → ⊥) → IsFoundFault Finds fault
-  none_found opening.InUse none = tt
-  none_found opening.Unreadable none = tt
-  none_found opening.NotALedger none = tt
-  none_found opening.OldSchema none = absurd (none tt)
-  none_found opening.NewerSchema none = absurd (none tt)
-  none_found (opening.Damaged damage) none = absurd (none tt)
-  none_found (opening.Unavailable why) none = tt
 
   -- it is found, if it is where a ledger is spoken of
   pub found_if : (fault : OpenFault) → (IsOfLedger fault → Finds fault) → IsFoundFault Finds fault
@@ -74,25 +61,37 @@ module _ {D : Type 0} (g : disk.Ghosts D) where
       stays = subst (λ (i : Image). Yields g left (AreOnlyThere i)) is (stay of).holds;
     }
 
-  -- so has one of the files at a path
-  at_path :
-      (image : Image) (fault : OpenFault) (kept : Option (Files D)) →
-      LeavesPath g image (RefusesToOpen g) fault kept → RefusesImage g image (open_fault fault)
-  at_path image fault None none =
-      found_so (HasFound g Warrants image) fault (none_found (HasFound g Warrants image) fault none)
-  at_path image fault (Some left) (files, held, refuses) =
-      found_so (HasFound g Warrants image) fault (found_if (HasFound g Warrants image) fault
-      (found_in Warrants image files left fault held.holds refuses.told refuses.stay))
+    -- so it is of the fault that the program tells of it
+    told_so :
+        (image : Image) (fault : OpenFault) (told : Fault) → told ≡ open_fault fault →
+        (IsOfLedger fault → HasFound g Warrants image fault) →
+        IsFoundSo (HasFound g Warrants image) told
+    told_so image fault told is found =
+        subst (IsFoundSo (HasFound g Warrants image)) (sym is)
+        (found_so (HasFound g Warrants image) fault (found_if (HasFound g Warrants image) fault found))
 
-  -- so has one that is to migrate a ledger
-  older_at_path :
-      (image : Image) (fault : OpenFault) (kept : Option (Files D)) →
-      LeavesPath g image (RefusesFiles g) fault kept → RefusesOlder g image (open_fault fault)
-  older_at_path image fault None none =
-      found_so (HasFound g TellsAny image) fault (none_found (HasFound g TellsAny image) fault none)
-  older_at_path image fault (Some left) (files, held, refuses) =
-      found_so (HasFound g TellsAny image) fault (found_if (HasFound g TellsAny image) fault
-      (found_in TellsAny image files left fault held.holds refuses.told refuses.stay))
+    -- and of the files at a path
+    pub at_path :
+        (Refuses : Files D → OpenFault × Files D → Type 0) (image : Image) (fault : OpenFault)
+        (kept : Option (Files D)) (told : Fault) → told ≡ open_fault fault →
+        ((files left : Files D) → Refuses files (fault, left) →
+        (AreClean g left.log left.db → IsToldBy Warrants g files fault left)
+        × (IsOfLedger fault → FilesStay g files left)) →
+        LeavesPath g image Refuses fault kept → IsFoundSo (HasFound g Warrants image) told
+    at_path Refuses image fault None told is tells none =
+        told_so image fault told is (λ of. absurd (none of))
+    at_path Refuses image fault (Some left) told is tells (files, held, refused) =
+        let parts = tells files left refused in
+        told_so image fault told is (found_in image files left fault held.holds parts.0 parts.1)
+
+  -- so it is of a store's opening
+  pub found_at :
+      (image : Image) (fault : OpenFault) (kept : Option (Files D)) (told : Fault) →
+      told ≡ open_fault fault → LeavesPath g image (RefusesToOpen g) fault kept →
+      RefusesImage g image told
+  found_at image fault kept told is =
+      at_path Warrants (RefusesToOpen g) image fault kept told is
+      (λ files left refuses. (refuses.told, refuses.stay))
 
   -- so has one of files, whatever they hold
   pub found_some :
@@ -106,20 +105,18 @@ module _ {D : Type 0} (g : disk.Ghosts D) where
 
   -- a making speaks of a ledger's version, or of its rows, only where the disk has lied
   module _ (image : Image) (files left : Files D) where
-    no_version :
-        IsToldOfMaking g files opening.OldSchema left ⊎ IsToldOfMaking g files opening.NewerSchema left →
-        ⊥
-    no_version (inl (inl (inl missing))) = absurd (let e = missing.1 in cc)
-    no_version (inl (inl (inr refused))) = absurd (let e = refused.0 in cc)
-    no_version (inl (inr found)) = found.is
-    no_version (inr (inl (inl missing))) = absurd (let e = missing.1 in cc)
-    no_version (inr (inl (inr refused))) = absurd (let e = refused.0 in cc)
-    no_version (inr (inr found)) = found.is
-
-    no_damage : (damage : Damage) → IsToldOfMaking g files (opening.Damaged damage) left → ⊥
-    no_damage damage (inl (inl missing)) = absurd (let e = missing.1 in cc)
-    no_damage damage (inl (inr refused)) = absurd (let e = refused.0 in cc)
-    no_damage damage (inr found) = found.is
+    lied :
+        (fault : OpenFault) → IsOfLedger fault →
+        ((db : Database) → HindersMaking fault db.schema → ⊥) →
+        (AreClean g left.log left.db → IsToldOfMaking g files fault left) →
+        (IsOfLedger fault → Yields g left (AreOnlyThere image)) → HasFound g Warrants image fault
+    lied fault of none told stays = record {
+      left = left;
+      is = λ clean.
+          let found = there (λ fault db. HindersMaking fault db.schema) files left fault of (told clean) in
+          absurd (none found.db found.is);
+      stays = stays of;
+    }
 
     making_found :
         (fault : OpenFault) →
@@ -129,35 +126,11 @@ module _ {D : Type 0} (g : disk.Ghosts D) where
     making_found opening.InUse told stays = tt
     making_found opening.Unreadable told stays = tt
     making_found opening.NotALedger told stays = tt
-    making_found opening.OldSchema told stays = record {
-      left = left;
-      is = λ clean. absurd (no_version (inl (told clean)));
-      stays = stays tt;
-    }
-    making_found opening.NewerSchema told stays = record {
-      left = left;
-      is = λ clean. absurd (no_version (inr (told clean)));
-      stays = stays tt;
-    }
-    making_found (opening.Damaged damage) told stays = (
-      damage,
-      record {
-        left = left;
-        is = λ clean. absurd (no_damage damage (told clean));
-        stays = stays tt;
-      },
-    )
+    making_found opening.OldSchema told stays = lied opening.OldSchema tt (λ db none. none) told stays
+    making_found opening.NewerSchema told stays = lied opening.NewerSchema tt (λ db none. none) told stays
+    making_found (opening.Damaged damage) told stays =
+        (damage, lied (opening.Damaged damage) tt (λ db none. none) told stays)
     making_found (opening.Unavailable why) told stays = tt
-
-  -- so it is of the files at a path
-  making_at_path :
-      (image : Image) (fault : OpenFault) (kept : Option (Files D)) →
-      LeavesPath g image (RefusesToMake g) fault kept → RefusesImage g image (open_fault fault)
-  making_at_path image fault None none =
-      found_so (HasFound g Warrants image) fault (none_found (HasFound g Warrants image) fault none)
-  making_at_path image fault (Some left) (files, held, refuses) =
-      making_found image files left fault refuses.told
-      (λ of. subst (λ (i : Image). Yields g left (AreOnlyThere i)) held.holds (refuses.stay of).holds)
 
   -- files that hold what others did, which held what was there, hold that
   stays_through :
@@ -172,27 +145,15 @@ module _ {D : Type 0} (g : disk.Ghosts D) where
         found.2,
       ))
 
-  -- all of this is so of the fault that the program tells of it
-  pub found_at :
-      (image : Image) (fault : OpenFault) (kept : Option (Files D)) (told : Fault) →
-      told ≡ open_fault fault → LeavesPath g image (RefusesToOpen g) fault kept →
-      RefusesImage g image told
-  found_at image fault kept told is refused =
-      subst (RefusesImage g image) (sym is) (at_path image fault kept refused)
-
-  pub older_found_at :
-      (image : Image) (fault : OpenFault) (kept : Option (Files D)) (told : Fault) →
-      told ≡ open_fault fault → LeavesPath g image (RefusesFiles g) fault kept →
-      RefusesOlder g image told
-  older_found_at image fault kept told is refused =
-      subst (RefusesOlder g image) (sym is) (older_at_path image fault kept refused)
-
   pub making_found_at :
       (image : Image) (fault : OpenFault) (kept : Option (Files D)) (told : Fault) →
       told ≡ open_fault fault → LeavesPath g image (RefusesToMake g) fault kept →
       RefusesImage g image told
-  making_found_at image fault kept told is refused =
-      subst (RefusesImage g image) (sym is) (making_at_path image fault kept refused)
+  making_found_at image fault None told is none =
+      told_so Warrants image fault told is (λ of. absurd (none of))
+  making_found_at image fault (Some left) told is (files, held, refuses) =
+      subst (RefusesImage g image) (sym is) (making_found image files left fault refuses.told
+      (λ of. subst (λ (i : Image). Yields g left (AreOnlyThere i)) held.holds (refuses.stay of).holds))
 
   -- a making in files that hold what was there tells so too, and leaves it
   pub making_found_in :

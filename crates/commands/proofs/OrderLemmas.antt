@@ -1,5 +1,5 @@
 -- An operator's order on a store, as what happens between turns.
-use Rattle.std.proofs.Common.{◌⊎◌, inl, inr, Result}
+use Rattle.std.proofs.Common.{◌≡◌, ◌⊎◌, inl, inr, Result, subst₂, sym}
 use Rattle.sqlite_disk.specs.declared.Disk as disk
 use Rattle.records.specs.declared.unavailable.Unavailable.{Unavailable}
 use Rattle.chain.specs.Backends.{in_use}
@@ -85,3 +85,10 @@ module _ {D : Type 0} {g : disk.Ghosts D} where
             Tries (asked_for read.0 account) (ending_told done)
             (moves_kept old (Tried (asked_for read.0 account) (ending_told done)) new read.1)
       ]
+
+  -- an order is carried out, where it is this one and this is told of it
+  pub carried_as :
+      (asked is : Order) (old new : Store D g) (done : Result Done Fault) (told : Result Done Fault) →
+      asked ≡ is → done ≡ told → CarriesOut is old told new → CarriesOut asked old done new
+  carried_as asked is old new done told same told_so carried =
+      subst₂ (λ (o : Order) (r : Result Done Fault). CarriesOut o old r new) (sym same) (sym told_so) carried

@@ -1,6 +1,8 @@
 -- A piece of a statement, as an operator is told it.
-use Rattle.std.proofs.Common.{◌≡◌, ℕ, List, Option, Some, None, Result, Ok, Err, refl, sym, subst}
+use Rattle.std.proofs.Common.{◌≡◌, ℕ, List, Option, Some, None, Result, Ok, Err, refl, subst}
 use Rattle.sqlite_disk.specs.declared.Disk as disk
+use Rattle.sqlite_wal.specs.Recovery.{Image}
+use Rattle.sqlite.specs.Effect.{Database}
 use Rattle.records.specs.Machine.{Machine}
 use Rattle.records.specs.declared.query.Span.{Span}
 use Rattle.chain.specs.Ledgers.{KeepsAll}
@@ -10,14 +12,16 @@ use Rattle.chain.specs.declared.reads.ReadFault.{ReadFault}
 use Rattle.chain.specs.declared.reads.ReadFault.TheVariants as fault
 use Rattle.parts.specs.Pieces.{IsPieceOf}
 use Rattle.stored_ledgers.specs.Directory.{digest_in}
-use Rattle.store.specs.Stores.{OfDatabase, OfDatabaseAt, tenants_at, tenants_of}
+use Rattle.store.specs.Stores.{IsLive, OfDatabase, OfDatabaseAt, tenants_at, tenants_of}
 use Rattle.store.specs.declared.place.Place.{Place}
 use Rattle.store.specs.declared.place.Place.TheVariants as at
 use Rattle.store.specs.declared.store.Store.{Store}
 use Rattle.command_texts.specs.declared.fault.Fault.{Fault}
 use Rattle.commands.specs.Endings.{ending_told}
+use Rattle.commands.specs.Holding.{ComesOf, IsFrom}
 use Rattle.commands.specs.Pieces.{IsPieceTold, machine_named, piece_told}
 use Rattle.commands.specs.declared.orders.Done.{Done}
+use Rattle.commands.proofs.HeldLemmas.{of_then}
 use Rattle.commands.proofs.PartLemmas.{read_ending}
 
 -- what a tenant's machine tells
@@ -77,3 +81,22 @@ module _ {D : Type 0} {g : disk.Ghosts D} where
   told_by_name account span name digest known old mid result =
       so_by_name (λ (tenant : Option Machine). IsPieceTold account span tenant result) name digest
       known old mid
+
+  -- what is made of the machine of a digest, behind a call that only reads, is made of that of its
+  -- name in the ledger that was opened
+  pub comes_by_name :
+      (P : Option Machine → Type 0) (image : Image) (name digest : List ℕ) (known : Option (List ℕ))
+      (first mid last : Store D g) → IsFrom image first → known ≡ Some digest →
+      (IsLive mid → IsLive first) → (IsLive mid → KeepsAll (tenants_of first) (tenants_of mid)) →
+      (IsLive mid → OfDatabase (λ db. known ≡ digest_in name db.trees) first) →
+      (IsLive last → IsLive mid) → (IsLive last → P (tenants_of mid digest)) →
+      ComesOf (IsFrom image) (λ old new. P (machine_named name old.trees)) last
+  comes_by_name P image name digest known first mid last from there lived keeps is lives holds = record {
+    first = first;
+    begun = from;
+    lived = λ live. lived (lives live);
+    is = λ live.
+        of_then (λ (db : Database). P (machine_named name db.trees)) first last live
+        (so_by_name P name digest known first mid there (keeps (lives live)) (is (lives live))
+        (holds live));
+  }

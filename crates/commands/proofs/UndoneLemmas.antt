@@ -1,6 +1,6 @@
 -- Why commands have not done what they were asked to do.
-use Rattle.std.proofs.Common.{◌≡◌, ◌⊎◌, ℕ, Bool, true, false, List, Option, Some, None, Result, Ok, Err}
-use Rattle.std.proofs.Common.{inl, inr, refl, subst, sym}
+use Rattle.std.proofs.Common.{◌≡◌, ◌⊎◌, ◌∙◌, ap, ℕ, Bool, true, false, List, Option, Some, None, Result, Ok, Err}
+use Rattle.std.proofs.Common.{IfErr, inl, inr, refl, subst, sym}
 use Rattle.std.specs.Option.{ok_or}
 use Rattle.std.specs.Prelude.{option_and_then}
 use Rattle.std.specs.Result.{IsErrAnd}
@@ -17,20 +17,22 @@ use Rattle.store.specs.declared.store.Store.{Store}
 use Rattle.command_line.specs.declared.commands.StatementWords.{StatementWords}
 use Rattle.command_texts.specs.Words.{IsDigestOfKey}
 use Rattle.command_texts.specs.declared.fault.Fault.{Fault}
-use Rattle.command_texts.specs.declared.fault.Fault.TheVariants.{NoTenant, Output}
+use Rattle.command_texts.specs.declared.fault.Fault.TheVariants.{BadKey, NoTenant, Output}
 use Rattle.commands.specs.Asking.{IsAccountId, IsAskedInWords, IsVersion, is_whole}
 use Rattle.commands.specs.Extracts.{IsAskedTold, ToldBy}
 use Rattle.commands.specs.GivenKeys.{IsGivenKey, OfDigest, key_text}
 use Rattle.commands.specs.Holding.{IsFrom, IsNotBrought}
 use Rattle.commands.specs.Openings.{RefusesImage, RefusesOlder}
 use Rattle.commands.specs.Pieces.{machine_named}
-use Rattle.commands.specs.Program.{AddsNamedTenant, ChangesKey, Migrates, WritesStatement}
-use Rattle.commands.specs.Undone.{IsNotAdded, IsNotChanged, IsNotMigrated, IsNotWritten}
+use Rattle.commands.specs.Program.{ChangesTenant, Migrates, WritesStatement}
+use Rattle.commands.specs.Undone.{IsNotMade, IsNotMigrated, IsNotWritten}
 use Rattle.commands.specs.Undone.{IsUndone, IsUndoneAsked, IsUndoneWith, IsUnserved}
 use Rattle.commands.specs.declared.asked.Asked.{Asked}
+use Rattle.commands.specs.declared.changing.TenantChange.{TenantChange}
 use Rattle.commands.specs.declared.ended.Ended.{Ended}
 use Rattle.commands.specs.declared.given_key.GivenKey.{GivenKey}
 use Rattle.commands.proofs.HeldLemmas.{is_key, of_then, so_at}
+use Rattle.commands.proofs.OpeningLemmas.{err_so}
 
 -- a tenant that is not found is told as none
 pub told_as_none :
@@ -41,15 +43,26 @@ told_as_none (Some digest) fault is none = absurd (let e = none in cc)
 
 module _ {D : Type 0} (g : disk.Ghosts D) (image : Image) where
   module _ (P : Fault → Type 0) (fault : Fault) where
-    -- why a ledger in a file is not opened, or declines, is why a command is undone
-    pub undone_in : RefusesImage g image fault ⊎ P fault → IsUndone g image P fault
-    undone_in (inl refused) = inr (inr (inl refused))
-    undone_in (inr declined) = inr (inr (inr declined))
+    -- why a service has not told more, or why a ledger in a file is not opened, or declines, is why
+    -- a command is undone
+    undone_by : IsUnserved fault ⊎ (RefusesImage g image fault ⊎ P fault) → IsUndone g image P fault
+    undone_by (inl (inl called)) = inl called
+    undone_by (inl (inr failed)) = inr (inl failed)
+    undone_by (inr (inl refused)) = inr (inr (inl refused))
+    undone_by (inr (inr declined)) = inr (inr (inr declined))
 
-    -- and so is why a service has not told more
-    pub undone_served : IsUnserved fault → IsUndone g image P fault
-    undone_served (inl called) = inl called
-    undone_served (inr failed) = inr (inl failed)
+    -- also where that fault is handed on
+    pub undone_in :
+        {T : Type 0} (result : Result T Fault) → IsErrAnd result (λ f. f ≡ fault) →
+        IsUnserved fault ⊎ (RefusesImage g image fault ⊎ P fault) → IfErr result (IsUndone g image P)
+    undone_in result same why = err_so (IsUndone g image P) result fault same (undone_by why)
+
+    -- why a ledger declines is handed on
+    pub declined_in :
+        {T : Type 0} (result : Result T Fault) → IsErrAnd result (λ f. f ≡ fault) → P fault →
+        IfErr result (λ f. RefusesImage g image f ⊎ P f)
+    declined_in result same why =
+        err_so (λ (f : Fault). RefusesImage g image f ⊎ P f) result fault same (inr why)
 
     undone_so : (Q : Fault → Type 0) → (P fault → Q fault) → IsUndone g image P fault → IsUndone g image Q fault
     undone_so Q so (inl called) = inl called
@@ -103,63 +116,59 @@ module _ {D : Type 0} (g : disk.Ghosts D) (image : Image) where
     )
 
 module _ {O D : Type 0} (g : disk.Ghosts D) (written : O → Option (List ℕ)) (image : Image) where
-  -- a tenant is not added, for this reason
-  pub not_added :
-      (db name named : List ℕ) (key : Option (List ℕ)) (out : O) (result : Result (Ended O D g) Fault)
-      (fault : Fault) (given : GivenKey) (digest : List ℕ) → IsErrAnd result (λ f. f ≡ fault) →
-      IsTenantName name → named ≡ name → IsGivenKey key given →
+  -- a change is not made, for this reason
+  pub not_made :
+      (change : TenantChange) (db name named : List ℕ) (key : Option (List ℕ)) (out : O)
+      (result : Result (Ended O D g) Fault) (fault : Fault) (given : GivenKey) (digest : List ℕ) →
+      IsErrAnd result (λ f. f ≡ fault) → IsTenantName name → named ≡ name → IsGivenKey key given →
       IsDigestOfKey (key_of (key_text given)) (Ok digest) →
-      IsUndone g image (IsNotAdded g image named digest) fault →
-      AddsNamedTenant written image db name key out result
-  not_added db name named key out (Ok ended) fault given digest same good is given_so hashed why =
+      IsUndone g image (IsNotMade g image change named digest) fault →
+      ChangesTenant change written image db name key out result
+  not_made change db name named key out (Ok ended) fault given digest same good is given_so hashed why =
       absurd same
-  not_added db name named key out (Err told) fault given digest same good is given_so hashed why =
-      record {
-        name_first = λ none. absurd (none good);
-        key_next = λ there none. absurd (is_key key given digest given_so hashed none);
-        added = tt;
-        calm = tt;
-        made = tt;
-        fault =
-            subst (IsUndoneWith g image name key (IsNotAdded g image name)) (sym same)
-            (inr (inr (undone_so g image (IsNotAdded g image named digest) fault
-            (λ (f : Fault). (word : GivenKey) × IsGivenKey key word
-            × OfDigest word (λ found. IsNotAdded g image name found f))
-            (λ kept. (
-              given,
-              given_so,
-              (digest, hashed, subst (λ (n : List ℕ). IsNotAdded g image n digest fault) is kept),
-            ))
-            why)));
-      }
-
-  -- a key is not changed, for this reason
-  pub not_changed :
-      (name named : List ℕ) (key : Option (List ℕ)) (out : O) (result : Result (Ended O D g) Fault)
-      (fault : Fault) (given : GivenKey) (digest : List ℕ) → IsErrAnd result (λ f. f ≡ fault) →
-      IsTenantName name → named ≡ name → IsGivenKey key given →
-      IsDigestOfKey (key_of (key_text given)) (Ok digest) →
-      IsUndone g image (IsNotChanged g image named digest) fault →
-      ChangesKey written image name key out result
-  not_changed name named key out (Ok ended) fault given digest same good is given_so hashed why =
-      absurd same
-  not_changed name named key out (Err told) fault given digest same good is given_so hashed why =
+  not_made change db name named key out (Err told) fault given digest same good is given_so hashed why =
       record {
         name_first = λ none. absurd (none good);
         key_next = λ there none. absurd (is_key key given digest given_so hashed none);
         changed = tt;
         calm = tt;
+        made = tt;
         fault =
-            subst (IsUndoneWith g image name key (IsNotChanged g image name)) (sym same)
-            (inr (inr (undone_so g image (IsNotChanged g image named digest) fault
+            subst (IsUndoneWith g image name key (IsNotMade g image change name)) (sym same)
+            (inr (inr (undone_so g image (IsNotMade g image change named digest) fault
             (λ (f : Fault). (word : GivenKey) × IsGivenKey key word
-            × OfDigest word (λ found. IsNotChanged g image name found f))
+            × OfDigest word (λ found. IsNotMade g image change name found f))
             (λ kept. (
               given,
               given_so,
-              (digest, hashed, subst (λ (n : List ℕ). IsNotChanged g image n digest fault) is kept),
+              (digest, hashed, subst (λ (n : List ℕ). IsNotMade g image change n digest fault) is kept),
             ))
             why)));
+      }
+
+  no_digest :
+      (key : Option (List ℕ)) (fault : Fault) → IsDigestOfKey key (Err fault) → (fault ≡ BadKey) × (key ≡ None)
+  no_digest (Some text) fault hashed = absurd (let e = hashed in cc)
+  no_digest None fault hashed = (let e = hashed in cc, refl)
+
+  -- nor where the key is none
+  pub no_key :
+      (change : TenantChange) (db name : List ℕ) (key : Option (List ℕ)) (out : O)
+      (result : Result (Ended O D g) Fault) (fault : Fault) (given : GivenKey) →
+      IsErrAnd result (λ f. f ≡ fault) → IsTenantName name → IsGivenKey key given →
+      IsDigestOfKey (key_of (key_text given)) (Err fault) →
+      ChangesTenant change written image db name key out result
+  no_key change db name key out (Ok ended) fault given same good given_so hashed = absurd same
+  no_key change db name key out (Err told) fault given same good given_so hashed =
+      let none = no_digest (key_of (key_text given)) fault hashed in
+      let bad : told ≡ BadKey = same ∙ none.0 in
+      record {
+        name_first = λ no. absurd (no good);
+        key_next = λ there no. ap (λ (f : Fault). Err f) bad;
+        changed = tt;
+        calm = tt;
+        made = tt;
+        fault = inr (inl (bad, (given, given_so, none.1)));
       }
 
   -- a statement is not written, for this reason

@@ -3,11 +3,10 @@ pub mod Listening
 pub mod Serving
 pub mod GivenLimits
 pub mod Statements
-pub mod Adding
-pub mod Keying
 pub mod Openings
 pub mod Migrating
 pub mod Holding
+pub mod Changing
 pub mod OverFiles
 pub mod Program
 pub mod Asking

@@ -12,10 +12,11 @@ use Rattle.store.specs.Stores.{IsLive, OfDatabase, OfDatabases}
 use Rattle.store.specs.declared.store.Store.{Store}
 use Rattle.command_texts.specs.declared.fault.Fault.{Fault}
 use Rattle.command_texts.specs.declared.fault.Fault.TheVariants.{Unavailable}
-use Rattle.commands.specs.Adding.{IsAdded}
+use Rattle.commands.specs.Changing.{IsChangedAs}
 use Rattle.commands.specs.Endings.{ending_told}
-use Rattle.commands.specs.Keying.{IsChanged}
 use Rattle.commands.specs.Pieces.{IsPieceTold, IsReadForOperator, machine_named}
+use Rattle.commands.specs.declared.changing.TenantChange.{TenantChange}
+use Rattle.commands.specs.declared.changing.TenantChange.TheVariants.{Adding, Keying}
 use Rattle.commands.specs.declared.kept.Kept.{Kept}
 use Rattle.commands.specs.declared.kept.Kept.TheVariants.{Open, Closed}
 use Rattle.commands.specs.declared.orders.Order.{Order}
@@ -29,12 +30,23 @@ told_only (Ok done) = Ok tt
 told_only (Err fault) = Err fault
 
 module _ {D : Type 0} {g : disk.Ghosts D} where
-  -- the change of some tenant's key to this digest was tried, and what is told of it is how it
-  -- ended
-  abbrev pub IsKeyingTold : {T : Type 0} → List ℕ → Store D g → Result T Fault → Store D g → Type 0
-  IsKeyingTold digest old result new =
+  -- a tenant's joining, or the change of some tenant's key, to this digest was tried, and what is
+  -- told of it is how it ended
+  abbrev pub IsChangeTried :
+      {T : Type 0} → TenantChange → List ℕ → Store D g → Result T Fault → Store D g → Type 0
+  IsChangeTried Adding digest old result new =
+      Moves (run_meaning (in_use store_meaning)) old (Tried (Joined digest) (ending_told result)) new
+  IsChangeTried Keying digest old result new =
       (was : List ℕ)
       × Moves (run_meaning (in_use store_meaning)) old (Tried (Keyed was digest) (ending_told result)) new
+
+  -- a change was tried, and this is told of it
+  abbrev pub CarriesOutChange :
+      TenantChange → List ℕ → List ℕ → Store D g → Result Done Fault → Store D g → Type 0
+  CarriesOutChange change name digest old result new =
+      (IsLive new → OfDatabases
+      (λ before after. IsChangedAs change name digest before after (told_only result)) old new)
+      × IsChangeTried change digest old result new
 
   -- the tenants are listed, if they could be read
   abbrev pub IsListingTold : Store D g → Result Done Fault → Type 0
@@ -50,13 +62,9 @@ module _ {D : Type 0} {g : disk.Ghosts D} where
   CarriesOut Tenants old result new =
       (IsLive new → IsListingTold old result) × IsAtRest (run_meaning (in_use store_meaning)) old new
   CarriesOut (AddTenant name digest) old result new =
-      (IsLive new
-      → OfDatabases (λ before after. IsAdded name digest before after (told_only result)) old new)
-      × Moves (run_meaning (in_use store_meaning)) old (Tried (Joined digest) (ending_told result)) new
+      CarriesOutChange Adding name digest old result new
   CarriesOut (ChangeKey name digest) old result new =
-      (IsLive new
-      → OfDatabases (λ before after. IsChanged name digest before after (told_only result)) old new)
-      × IsKeyingTold digest old result new
+      CarriesOutChange Keying name digest old result new
   CarriesOut (Statement tenant account span) old result new =
       (IsLive new
       → OfDatabase (λ db. IsPieceTold account span (machine_named tenant db.trees) result) old)

@@ -6,8 +6,6 @@ use Rattle.serde_json.specs.Written.{compact_text}
 use Rattle.sqlite_disk.specs.declared.Disk as disk
 use Rattle.sqlite_trees.specs.Tree.{Trees}
 use Rattle.sqlite_wal.specs.Recovery.{Image}
-use Rattle.stored_ledgers.specs.Joining.{HasJoined}
-use Rattle.stored_ledgers.specs.Keying.{HasKeyed}
 use Rattle.stored_ledgers.specs.Listing.{AreListed}
 use Rattle.stored_ledgers.specs.declared.directory.ListedTenant.{ListedTenant}
 use Rattle.store.specs.declared.store.Store.{Store}
@@ -17,11 +15,13 @@ use Rattle.control.specs.Listing.{HasLines, rows_data}
 use Rattle.control.specs.declared.answer.Answer.{Answer}
 use Rattle.control.specs.declared.counting.CountForm.{CountForm}
 use Rattle.control.specs.declared.counting.CountForm.TheVariants.{Metric, Plain}
+use Rattle.commands.specs.Changing.{IsChangedAs, IsOpenedFor}
 use Rattle.commands.specs.Extracts.{IsAskedTold}
-use Rattle.commands.specs.Holding.{Becomes, ComesOf, IsOpenedOrMade, IsFrom}
+use Rattle.commands.specs.Holding.{Becomes, ComesOf, IsFrom}
 use Rattle.commands.specs.Listing.{row_of}
 use Rattle.commands.specs.Pieces.{machine_named}
 use Rattle.commands.specs.declared.asked.Asked.{Asked}
+use Rattle.commands.specs.declared.changing.TenantChange.{TenantChange}
 
 -- a body lists these tenants
 abbrev pub ListsRows : List ListedTenant → List ℕ → Type 0
@@ -57,17 +57,13 @@ IsWrittenFrom written name account asked old new trees =
     IsAskedTold written (machine_named name trees) account asked old new (Ok tt)
 
 module _ {D : Type 0} {g : disk.Ghosts D} (image : Image) where
-  -- a tenant has joined the ledger that was opened on what the files held, or made where a path is
-  -- told as a new ledger's
-  abbrev pub HasAdded : Option (List ℕ) → List ℕ → List ℕ → Store D g → Type 0
-  HasAdded made name digest =
-      Becomes (IsOpenedOrMade (is_some made) image)
-      (λ old new. HasJoined name digest old new (Ok tt))
-
-  -- a tenant of the ledger that was opened has another key
-  abbrev pub HasChanged : List ℕ → List ℕ → Store D g → Type 0
-  HasChanged name digest =
-      Becomes (IsFrom image) (λ old new. HasKeyed name digest old new (Ok tt))
+  -- the change was made in the ledger that was opened for it, or made where a path is told as a new
+  -- ledger's
+  abbrev pub HasMade :
+      TenantChange → Option (List ℕ) → List ℕ → List ℕ → Store D g → Type 0
+  HasMade change made name digest =
+      Becomes (IsOpenedFor change (is_some made) image)
+      (λ old new. IsChangedAs change name digest old new (Ok tt))
 
   -- the tenants of the ledger that was opened are listed
   abbrev pub HasListed : Option (List ℕ) → Option (List ℕ) → Store D g → Type 0

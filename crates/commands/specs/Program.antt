@@ -20,21 +20,24 @@ use Rattle.command_line.specs.declared.commands.Command.TheVariants as command
 use Rattle.command_line.specs.declared.fault.LineFault.{LineFault}
 use Rattle.command_line.specs.declared.fault.LineFault.TheVariants.{Refused, Version, Memory}
 use Rattle.command_texts.specs.Faults.{status_of}
-use Rattle.command_texts.specs.Lines.{IsWritten, added_line, changed_line, damage_line}
+use Rattle.command_texts.specs.Lines.{IsWritten, damage_line}
 use Rattle.command_texts.specs.Lines.{copied_line, fault_line, new_ledger_line, schema_line, stopped_line}
 use Rattle.command_line.specs.declared.commands.StatementWords.{StatementWords}
 use Rattle.commands.specs.Asking.{IsAccountId, IsAskedInWords, IsVersion, MeansPeriod, read_form}
-use Rattle.control.specs.Answers.{TellsAdded, TellsChanged, TellsCopied, TellsStopped}
+use Rattle.control.specs.Answers.{TellsCopied, TellsStopped}
+use Rattle.commands.specs.Changing.{IsMadeFor, TellsChange, change_line}
 use Rattle.commands.specs.Copying.{IsPathOf}
 use Rattle.commands.specs.Holding.{HasDamaged, HasMigrated, HasOpened, HasTold, HasToldOr}
 use Rattle.commands.specs.Holding.{IsBroughtTo, IsDamagedAt, IsFrom}
 use Rattle.commands.specs.Openings.{RefusesImage}
 use Rattle.commands.specs.OverFiles.{AreCountsTold, AreTenantsTold, count_form}
-use Rattle.commands.specs.OverFiles.{HasAdded, HasChanged, HasListed, HasWrittenStatement, IsWrittenFrom}
-use Rattle.commands.specs.Undone.{IsNotAdded, IsNotChanged, IsNotCopied, IsNotMigrated}
+use Rattle.commands.specs.OverFiles.{HasListed, HasMade, HasWrittenStatement, IsWrittenFrom}
+use Rattle.commands.specs.Undone.{IsNotCopied, IsNotMade, IsNotMigrated}
 use Rattle.commands.specs.Undone.{IsUnanswered, IsUndone, IsUndoneAsked, IsUndoneWith}
 use Rattle.commands.specs.Served.{IsStatementServed}
 use Rattle.commands.specs.declared.asked.Asked.{Asked}
+use Rattle.commands.specs.declared.changing.TenantChange.{TenantChange}
+use Rattle.commands.specs.declared.changing.TenantChange.TheVariants.{Adding, Keying}
 use Rattle.statement.specs.declared.period.Period.{Period}
 use Rattle.commands.specs.GivenKeys.{IsGivenKey, AreLinesTold, OfDigest, key_text}
 use Rattle.commands.specs.declared.ended.Ended.{Ended}
@@ -44,11 +47,6 @@ use Rattle.command_texts.specs.declared.fault.Fault.{Fault}
 use Rattle.command_texts.specs.declared.fault.Fault.TheVariants.{BadName, BadKey, BadAccount}
 use Rattle.command_texts.specs.declared.fault.Fault.TheVariants.{BadVersion, BadTime, BadFormat}
 use Rattle.command_texts.specs.declared.fault.Fault.TheVariants.{Output, Unavailable, Unreadable}
-
--- nothing, or this text
-abbrev pub IsNoneOr : List ℕ → Option (List ℕ) → Type 0
-IsNoneOr text None = Unit {0}
-IsNoneOr text (Some found) = found ≡ text
 
 -- a word on the command line that is no key
 abbrev pub IsNoKey : Option (List ℕ) → Type 0
@@ -65,40 +63,24 @@ module _ {O D : Type 0} {g : disk.Ghosts D} where
   abbrev pub IsCalm : Ended O D g → Type 0
   IsCalm ended = (ended.is_damaged ≡ false) × (ended.made ≡ None)
 
-  -- a tenant is added, and a line tells so, and whether the file has become a new ledger
-  pub record IsAddedSo (written : O → Option (List ℕ)) (image : Image) (name : List ℕ)
-      (key : Option (List ℕ)) (out : O) (ended : Ended O D g) : Type 0 where
+  -- a tenant is added, or its key changed, and a line tells so
+  pub record IsTenantChanged (change : TenantChange) (written : O → Option (List ℕ)) (image : Image)
+      (name : List ℕ) (key : Option (List ℕ)) (out : O) (ended : Ended O D g) : Type 0 where
     pub given : GivenKey
-    pub line : TellsKey key (written out) (written ended.out) (added_line name) given
-    pub added : OfDigest given (λ digest. HasToldOr (TellsAdded name (key_text given))
-        (HasOpened (HasAdded image (text_in ended.made) name digest)) ended.held)
+    pub line : TellsKey key (written out) (written ended.out) (change_line change name) given
+    pub made : OfDigest given (λ digest. HasToldOr (TellsChange change name (key_text given))
+        (HasOpened (HasMade image change (text_in ended.made) name digest)) ended.held)
 
   -- so it is; before the file is opened the name is judged, then the key
-  pub record AddsNamedTenant (written : O → Option (List ℕ)) (image : Image) (db name : List ℕ)
-      (key : Option (List ℕ)) (out : O) (result : Result (Ended O D g) Fault) : Type 0 where
+  pub record ChangesTenant (change : TenantChange) (written : O → Option (List ℕ)) (image : Image)
+      (db name : List ℕ) (key : Option (List ℕ)) (out : O)
+      (result : Result (Ended O D g) Fault) : Type 0 where
     pub name_first : ¬ IsTenantName name → result ≡ Err BadName
     pub key_next : IsTenantName name → IsNoKey key → result ≡ Err BadKey
-    pub added : IfOk result (IsAddedSo written image name key out)
+    pub changed : IfOk result (IsTenantChanged change written image name key out)
     pub calm : IfOk result (λ ended. ended.is_damaged ≡ false)
-    pub made : IfOk result (λ ended. IsNoneOr db (text_in ended.made))
-    pub fault : IfErr result (IsUndoneWith g image name key (IsNotAdded g image name))
-
-  -- a tenant's key is changed, and a line tells so
-  pub record IsChangedSo (written : O → Option (List ℕ)) (image : Image) (name : List ℕ)
-      (key : Option (List ℕ)) (out : O) (ended : Ended O D g) : Type 0 where
-    pub given : GivenKey
-    pub line : TellsKey key (written out) (written ended.out) (changed_line name) given
-    pub changed : OfDigest given (λ digest. HasToldOr (TellsChanged name (key_text given))
-        (HasOpened (HasChanged image name digest)) ended.held)
-
-  -- so it is; before the file is opened the name is judged, then the key
-  pub record ChangesKey (written : O → Option (List ℕ)) (image : Image) (name : List ℕ)
-      (key : Option (List ℕ)) (out : O) (result : Result (Ended O D g) Fault) : Type 0 where
-    pub name_first : ¬ IsTenantName name → result ≡ Err BadName
-    pub key_next : IsTenantName name → IsNoKey key → result ≡ Err BadKey
-    pub changed : IfOk result (IsChangedSo written image name key out)
-    pub calm : IfOk result IsCalm
-    pub fault : IfErr result (IsUndoneWith g image name key (IsNotChanged g image name))
+    pub made : IfOk result (λ ended. IsMadeFor change db ended.made)
+    pub fault : IfErr result (IsUndoneWith g image name key (IsNotMade g image change name))
 
   -- what the words ask for of an account's statement is written
   pub record IsStatementWritten (written : O → Option (List ℕ)) (image : Image)
@@ -228,9 +210,9 @@ module _ {O D : Type 0} {g : disk.Ghosts D} where
   Performs written image (command.Serve db address port requests standby limits) out result =
       DoesNothing out result
   Performs written image (command.AddTenant db name key) out result =
-      AddsNamedTenant written image db.now name.now (text_in key) out result
+      ChangesTenant Adding written image db.now name.now (text_in key) out result
   Performs written image (command.ChangeKey db name key) out result =
-      ChangesKey written image name.now (text_in key) out result
+      ChangesTenant Keying written image db.now name.now (text_in key) out result
   Performs written image (command.Statement db tenant account asked) out result =
       WritesStatement written image tenant.now account.now asked out result
   Performs written image (command.Check db) out result = Checks written image out result

@@ -12,15 +12,15 @@ use Rattle.command_texts.specs.declared.fault.Fault.TheVariants.{BadVersion, Exi
 use Rattle.command_texts.specs.declared.fault.Fault.TheVariants.{Output}
 use Rattle.control.specs.Told.{IsCallFault}
 use Rattle.store.specs.declared.store.Store.{Store}
-use Rattle.commands.specs.Adding.{IsAdded}
 use Rattle.commands.specs.Asking.{IsAccountId, IsAskedInWords, IsUnasked, IsVersion}
+use Rattle.commands.specs.Changing.{IsChangedAs, IsOpenedFor}
 use Rattle.commands.specs.Extracts.{IsAskedTold}
 use Rattle.commands.specs.GivenKeys.{IsGivenKey, OfDigest, key_text}
-use Rattle.commands.specs.Holding.{ComesOf, IsOpenedOrMade, IsFrom, IsNotBrought}
-use Rattle.commands.specs.Keying.{IsChanged}
+use Rattle.commands.specs.Holding.{ComesOf, IsFrom, IsNotBrought}
 use Rattle.commands.specs.Openings.{RefusesImage, RefusesOlder}
 use Rattle.commands.specs.Pieces.{machine_named}
 use Rattle.commands.specs.declared.asked.Asked.{Asked}
+use Rattle.commands.specs.declared.changing.TenantChange.{TenantChange}
 use Rattle.commands.specs.declared.given_key.GivenKey.{GivenKey}
 
 -- something has a name that the copy is to have
@@ -48,18 +48,12 @@ module _ {D : Type 0} (g : disk.Ghosts D) (image : Image) where
   IsUndone Declines fault =
       IsCallFault fault ⊎ (fault ≡ Output) ⊎ RefusesImage g image fault ⊎ Declines fault
 
-  -- a tenant has not joined a ledger that was opened or made
-  abbrev pub IsNotAdded : List ℕ → List ℕ → Fault → Type 0
-  IsNotAdded name digest fault =
+  -- the change was not made in a ledger that was opened for it, or made
+  abbrev pub IsNotMade : TenantChange → List ℕ → List ℕ → Fault → Type 0
+  IsNotMade change name digest fault =
       (is_new : Bool) × (store : Store D g)
-      × ComesOf (IsOpenedOrMade is_new image)
-      (λ old new. IsAdded name digest old new (Err fault)) store
-
-  -- a tenant of a ledger that was opened has no other key
-  abbrev pub IsNotChanged : List ℕ → List ℕ → Fault → Type 0
-  IsNotChanged name digest fault =
-      (store : Store D g)
-      × ComesOf (IsFrom image) (λ old new. IsChanged name digest old new (Err fault)) store
+      × ComesOf (IsOpenedFor change is_new image)
+      (λ old new. IsChangedAs change name digest old new (Err fault)) store
 
   -- a statement of a ledger that was opened is not written, or not to its end
   abbrev pub IsNotWritten :

@@ -2,11 +2,11 @@
 //! machine.
 #![tactic(auto)]
 
-mod adding;
 mod asked;
 mod behind;
 mod bell;
 mod calling;
+mod changing;
 mod copied;
 mod counting;
 mod desk;
@@ -18,7 +18,6 @@ mod given_key;
 mod given_limits;
 mod hosting;
 mod kept;
-mod keying;
 mod laws;
 mod listening;
 mod listing;

@@ -3,9 +3,8 @@ ghost use Rattle.std.specs.Prelude.{◌≡◌, Bool};
 ghost use Rattle.commands.specs.Kept.{Attends};
 ghost use Rattle.commands.specs.Orders.{CarriesOut, IsToldOfOrder};
 
-use crate::adding::add_tenant;
+use crate::changing::TenantChange;
 use crate::kept::Kept;
-use crate::keying::change_key;
 use crate::pieces::read_piece;
 use crate::stores::may_be_called;
 use chain::{AccountEntry, InUse, Listed};
@@ -94,11 +93,11 @@ fn carry_out_on<D: Disk + Drop>(
             }
         }
         Order::AddTenant { name, digest } => {
-            add_tenant(store, name, digest)?;
+            TenantChange::Adding.make(store, name, digest)?;
             Ok(Done::Changed)
         }
         Order::ChangeKey { name, digest } => {
-            change_key(store, name, digest)?;
+            TenantChange::Keying.make(store, name, digest)?;
             Ok(Done::Changed)
         }
         Order::Statement {

@@ -63,14 +63,15 @@ pub(crate) fn serve_clients<L: Rounds, H: Steward<L> + Stops, C: Moments, P: Pee
         left -= serve_ready(
             alloc, peers, &mut seats, ledgers, home, moments, &mut piece, left,
         );
-        if left == 0 {
-            write_rest::<L, H, C, P>(alloc, peers, &mut seats, ledgers);
-            return Ok(Served::Enough);
-        }
-        if home.is_stopping() {
-            write_rest::<L, H, C, P>(alloc, peers, &mut seats, ledgers);
-            return Ok(Served::Stopped);
-        }
+        let served = if left == 0 {
+            Served::Enough
+        } else if home.is_stopping() {
+            Served::Stopped
+        } else {
+            continue;
+        };
+        write_rest::<L, H, C, P>(alloc, peers, &mut seats, ledgers);
+        return Ok(served);
     }
     Err(Fault::Socket)
 }

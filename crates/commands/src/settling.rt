@@ -198,12 +198,13 @@ impl Settler {
             return rest;
         }
         self.behind.end_search();
-        self.is_busy = self.has_found;
-        self.has_found = false;
-        if self.is_busy {
+        let rest = if self.has_found {
             rest
         } else {
             Duration::from_millis(PAUSE)
-        }
+        };
+        self.is_busy = self.has_found;
+        self.has_found = false;
+        rest
     }
 }

@@ -5,9 +5,10 @@ ghost use Rattle.command_line.specs.Values.{text_in};
 ghost use Rattle.commands.specs.Program.{Performs, RunsProgram, IsMadeTold, IsRefusalTold, TellsEnded};
 ghost use Rattle.commands.specs.Program.{TellsVersion, told};
 
+use crate::changing::TenantChange;
 use crate::ended::{Ended, Held};
 use crate::over_files::{run_check, run_copy, run_migrate, run_statement, run_status, run_stop};
-use crate::over_tenants::{run_add_tenant, run_change_key, run_tenants};
+use crate::over_tenants::{run_change, run_tenants};
 use crate::reasons::{Place, tell_file_fault};
 use command_line::{Command, LineFault, command, version_text};
 use command_texts::{Fault, put_text, tell_fault, tell_new_ledger};
@@ -123,8 +124,12 @@ fn run<'a, St: Start, O: Drain + Drop>(
                 held: Held::Nothing,
             })
         }
-        Command::AddTenant { db, name, key } => run_add_tenant(rt, db, name, key, start, out),
-        Command::ChangeKey { db, name, key } => run_change_key(rt, db, name, key, start, out),
+        Command::AddTenant { db, name, key } => {
+            run_change(rt, TenantChange::Adding, db, name, key, start, out)
+        }
+        Command::ChangeKey { db, name, key } => {
+            run_change(rt, TenantChange::Keying, db, name, key, start, out)
+        }
         Command::Statement {
             db,
             tenant,

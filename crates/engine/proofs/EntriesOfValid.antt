@@ -8,7 +8,7 @@ use Rattle.records.specs.declared.account.Account.{Account}
 use Rattle.records.specs.declared.transfer.Transfer.{Transfer}
 use Rattle.records.specs.declared.transfer.TransferEvent.{TransferEvent}
 use Rattle.records.specs.declared.facts.TransferFacts.{TransferFacts}
-use Rattle.records.specs.Machine.{Machine, new_machine, has_id, with_failed}
+use Rattle.records.specs.Machine.{Machine, new_machine, has_id, with_id, with_failed}
 use Rattle.records.specs.Facts.{facts_of}
 use Rattle.records.specs.StoredRecord.{stored_transfer}
 use Rattle.records.specs.Step.{account_verdict_in, transfer_verdict_in, at_clock, max_clock}
@@ -124,29 +124,31 @@ none_given = record {
   transfers = All-nil (IsTransferGiven new_machine);
 }
 
--- a later clock
+-- a later clock, and other failed ids
 
-later_given : (m : Machine) (clock : ℕ) → IsValidEntryByEntry m → m.clock ≤ clock → clock ≤ max_clock → AreFailedApart (at_clock m clock) → IsValidEntryByEntry (at_clock m clock)
-later_given m clock v le fits failed = record {
-  widths = record { accounts = v.widths.accounts; transfers = v.widths.transfers };
-  timestamps = record {
-    positive_accounts = v.timestamps.positive_accounts;
-    positive_transfers = v.timestamps.positive_transfers;
-    accounts_rise = v.timestamps.accounts_rise;
-    transfers_rise = v.timestamps.transfers_rise;
-    apart = v.timestamps.apart;
-  };
-  batches = record { from = v.batches.from; short = v.batches.short; never_fall = v.batches.never_fall };
-  clock = record {
-    accounts = All-weaker (λ a. a.timestamp ≤ m.clock) (λ a. a.timestamp ≤ clock) (λ a h. omega arith) m.accounts v.clock.accounts;
-    transfers = All-weaker (λ t. t.timestamp ≤ m.clock) (λ t. t.timestamp ≤ clock) (λ t h. omega arith) m.transfers v.clock.transfers;
-    batches = All-weaker (λ t. t.at ≤ m.clock) (λ t. t.at ≤ clock) (λ t h. omega arith) m.transfers v.clock.batches;
-    bounded = fits;
-  };
-  failed = failed;
-  accounts = All-weaker (IsAccountGiven m) (IsAccountGiven (at_clock m clock)) (λ a h. account_given_at m (at_clock m clock) a refl h) m.accounts v.accounts;
-  transfers = All-weaker (IsTransferGiven m) (IsTransferGiven (at_clock m clock)) (λ t h. transfer_given_at m (at_clock m clock) t refl h) m.transfers v.transfers;
-}
+pub beside_others : (m : Machine) (clock : ℕ) (ids : List ℕ) → IsValidEntryByEntry m → m.clock ≤ clock → clock ≤ max_clock → AreFailedApart (record m { clock = clock; failed = ids }) → IsValidEntryByEntry (record m { clock = clock; failed = ids })
+beside_others m clock ids v le fits failed =
+    let n : Machine = record m { clock = clock; failed = ids } in
+    record {
+      widths = record { accounts = v.widths.accounts; transfers = v.widths.transfers };
+      timestamps = record {
+        positive_accounts = v.timestamps.positive_accounts;
+        positive_transfers = v.timestamps.positive_transfers;
+        accounts_rise = v.timestamps.accounts_rise;
+        transfers_rise = v.timestamps.transfers_rise;
+        apart = v.timestamps.apart;
+      };
+      batches = record { from = v.batches.from; short = v.batches.short; never_fall = v.batches.never_fall };
+      clock = record {
+        accounts = All-weaker (λ a. a.timestamp ≤ m.clock) (λ a. a.timestamp ≤ clock) (λ a h. omega arith) m.accounts v.clock.accounts;
+        transfers = All-weaker (λ t. t.timestamp ≤ m.clock) (λ t. t.timestamp ≤ clock) (λ t h. omega arith) m.transfers v.clock.transfers;
+        batches = All-weaker (λ t. t.at ≤ m.clock) (λ t. t.at ≤ clock) (λ t h. omega arith) m.transfers v.clock.batches;
+        bounded = fits;
+      };
+      failed = failed;
+      accounts = All-weaker (IsAccountGiven m) (IsAccountGiven n) (λ a h. account_given_at m n a refl h) m.accounts v.accounts;
+      transfers = All-weaker (IsTransferGiven m) (IsTransferGiven n) (λ t h. transfer_given_at m n t refl h) m.transfers v.transfers;
+    }
 
 -- the entries of a machine, with a later account
 
@@ -209,29 +211,10 @@ next_transfer_given m t v next failed =
       transfers = All-push (IsTransferGiven (with_transfer m t)) m.transfers t (transfers_with_transfer m t time v.transfers) (new_transfer_given m t next);
     }
 
--- with one more failed id
-
-failed_given : (m : Machine) (id : ℕ) → IsValidEntryByEntry m → AreFailedApart (with_failed m id) → IsValidEntryByEntry (with_failed m id)
-failed_given m id v failed = record {
-  widths = record { accounts = v.widths.accounts; transfers = v.widths.transfers };
-  timestamps = record {
-    positive_accounts = v.timestamps.positive_accounts;
-    positive_transfers = v.timestamps.positive_transfers;
-    accounts_rise = v.timestamps.accounts_rise;
-    transfers_rise = v.timestamps.transfers_rise;
-    apart = v.timestamps.apart;
-  };
-  batches = record { from = v.batches.from; short = v.batches.short; never_fall = v.batches.never_fall };
-  clock = record { accounts = v.clock.accounts; transfers = v.clock.transfers; batches = v.clock.batches; bounded = v.clock.bounded };
-  failed = failed;
-  accounts = All-weaker (IsAccountGiven m) (IsAccountGiven (with_failed m id)) (λ a h. account_given_at m (with_failed m id) a refl h) m.accounts v.accounts;
-  transfers = All-weaker (IsTransferGiven m) (IsTransferGiven (with_failed m id)) (λ t h. transfer_given_at m (with_failed m id) t refl h) m.transfers v.transfers;
-}
-
 -- each entry of a valid machine is given by its own fields, by the steps that led to it
 pub given : (m : Machine) → IsValid m → IsValidEntryByEntry m
 given m IsValid.new_tenant = none_given
-given n (IsValid.later m clock valid le fits) = later_given m clock (given m valid) le fits (failed_apart (at_clock m clock) (sound (at_clock m clock) (IsValid.later m clock valid le fits)))
+given n (IsValid.later m clock valid le fits) = beside_others m clock m.failed (given m valid) le fits (failed_apart (at_clock m clock) (sound (at_clock m clock) (IsValid.later m clock valid le fits)))
 given n (IsValid.next_account m a valid next) = account_given m a (given m valid) next (failed_apart (with_account m a) (sound (with_account m a) (IsValid.next_account m a valid next)))
 given n (IsValid.next_transfer m t valid next) = next_transfer_given m t (given m valid) next (failed_apart (with_transfer m t) (sound (with_transfer m t) (IsValid.next_transfer m t valid next)))
-given n (IsValid.next_failed m id valid next) = failed_given m id (given m valid) (failed_apart (with_failed m id) (sound (with_failed m id) (IsValid.next_failed m id valid next)))
+given n (IsValid.next_failed m id valid next) = let v = given m valid in beside_others m m.clock (with_id id m.failed) v (omega arith) v.clock.bounded (failed_apart (with_failed m id) (sound (with_failed m id) (IsValid.next_failed m id valid next)))

@@ -21,6 +21,7 @@ pub use Rattle.engine.proofs.IsSound.{EndsPending, IsEntrySound, IsSound}
 pub use Rattle.engine.proofs.SoundWithTransfer.{next_is_sound}
 pub use Rattle.engine.proofs.Sound.{sound}
 pub use Rattle.engine.proofs.BalancesAfterLemmas.{balances_elsewhere}
+pub use Rattle.engine.proofs.EntriesOfValid.{beside_others}
 
 -- the clock has not passed its end
 pub clock_bound : (m : Machine) → IsValid m → m.clock ≤ max_clock

@@ -1,8 +1,8 @@
 -- What a form means.
-use Rattle.std.specs.Prelude.{ℕ, true, false, List, [], ◌∷◌, map, length, replicate, codes}
+use Rattle.std.specs.Prelude.{ℕ, true, false, List, [], ◌∷◌, map, length, replicate}
 use Rattle.std.specs.Prelude.{Some, None, Option, Bool, ◌==◌}
 use Rattle.sqlite_value.specs.declared.keys.Collation.TheVariants.{Binary}
-use Rattle.sqlite_value.specs.declared.value.Value.TheVariants.{Null, Int}
+use Rattle.sqlite_value.specs.declared.value.Value.TheVariants.{Int}
 use Rattle.sqlite_value.specs.declared.keys.Order.{Order}
 use Rattle.sqlite_value.specs.Keys.{plain}
 use Rattle.sqlite_sql.specs.Term.{Term, lit, col, op1, op2}
@@ -10,12 +10,11 @@ use Rattle.sqlite_sql.specs.declared.ops.UnaryOp.TheVariants as unary
 use Rattle.sqlite_sql.specs.declared.ops.BinaryOp.TheVariants.{Compare}
 use Rattle.sqlite_sql.specs.declared.ops.CompareOp.TheVariants.{Eq}
 use Rattle.sqlite_schema.specs.declared.schema.Column.{Column}
-use Rattle.sqlite_schema.specs.declared.schema.Kind.{Kind}
 use Rattle.sqlite_schema.specs.declared.schema.Kind.TheVariants.{Integer, Text, Blob}
-use Rattle.sqlite_schema.specs.declared.schema.Action.TheVariants.{NoAction}
 use Rattle.sqlite_schema.specs.declared.schema.Reference.{Reference}
 use Rattle.sqlite_schema.specs.declared.schema.Table.{Table}
 use Rattle.sqlite_schema.specs.declared.schema.Index.{Index}
+use Rattle.ledger_sql.specs.Schema.{column_of, to_tenant}
 use Rattle.ledger_shape.specs.declared.forms.ColumnForm.{ColumnForm}
 use Rattle.ledger_shape.specs.declared.forms.ColumnForm.TheVariants.{Whole, Bytes, Words}
 use Rattle.ledger_shape.specs.declared.forms.KeyForm.{KeyForm}
@@ -23,17 +22,6 @@ use Rattle.ledger_shape.specs.declared.forms.CheckForm.{CheckForm}
 use Rattle.ledger_shape.specs.declared.forms.CheckForm.TheVariants.{Equals, Length}
 use Rattle.ledger_shape.specs.declared.forms.TableForm.{TableForm}
 use Rattle.ledger_shape.specs.declared.forms.IndexForm.{IndexForm}
-
--- a column of a STRICT table, never NULL
-abbrev pub column_of : List ℕ → Kind → Column
-column_of name kind = record {
-  name = name;
-  kind = kind;
-  is_strict = true;
-  not_null = true;
-  default = Null;
-  collation = Binary;
-}
 
 abbrev pub column_for : ColumnForm → Column
 column_for (Whole name) = column_of name.now Integer
@@ -52,17 +40,6 @@ abbrev pub check_for : CheckForm → Term
 check_for (Equals place number) = op2 (Compare Eq Binary) (col 1 place) (lit (Int number))
 check_for (Length place bytes) =
     op2 (Compare Eq Binary) (op1 unary.Length (col 1 place)) (lit (Int bytes))
-
--- the column at this place names a tenant
-abbrev pub to_tenant : ℕ → Reference
-to_tenant place = record {
-  columns = place ∷ [];
-  parent = codes "tenant";
-  parent_columns = codes "no" ∷ [];
-  on_delete = NoAction;
-  on_update = NoAction;
-  is_deferred = false;
-}
 
 abbrev pub references_for : Option ℕ → List Reference
 references_for None = []

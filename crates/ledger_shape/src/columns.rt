@@ -1,7 +1,7 @@
 //! A column against its form.
 
 ghost use Rattle.std.specs.Prelude.{◌≡◌, ◌↔◌, IsTrue};
-ghost use Rattle.ledger_shape.specs.Forms.{column_of};
+ghost use Rattle.ledger_sql.specs.Schema.{column_of};
 
 use crate::fits::Form;
 use crate::forms::ColumnForm;

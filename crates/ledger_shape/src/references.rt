@@ -1,7 +1,8 @@
 //! What a table refers to, against its form.
 
 ghost use Rattle.std.specs.Prelude.{◌≡◌, ◌↔◌, ◌∷◌, [], codes, IsTrue};
-ghost use Rattle.ledger_shape.specs.Forms.{references_for, to_tenant};
+ghost use Rattle.ledger_sql.specs.Schema.{to_tenant};
+ghost use Rattle.ledger_shape.specs.Forms.{references_for};
 
 use sqlite_schema::schema::{Action, Reference};
 use sqlite_value::value::Bytes;

@@ -32,14 +32,15 @@ use Rattle.sqlite_sql.specs.Ops.{unary}
 use Rattle.std.specs.Ordering.{int_eq}
 use Rattle.std.proofs.Common.{drop}
 use Rattle.ledger_sql.specs.TableRows.{is_own, cells_from, rows_in}
-use Rattle.ledger_sql.specs.Effects.{IsLedger, IsInside, AddsRows}
+use Rattle.ledger_sql.specs.Effects.{IsInside, AddsRows}
 use Rattle.ledger_sql.specs.Rowids.{IsNumbered}
 use Rattle.ledger_sql.proofs.ReplaceLemmas.{numbered_put}
 use Rattle.sqlite_trees.specs.View.{is_int}
 use Rattle.ledger_sql.proofs.PutLemmas.{AreNumbered, chosen, put_more, put_aside}
 use Rattle.sqlite.proofs.Callers.{IsPlain, command_of}
-use Rattle.ledger_sql.specs.Schema.{table}
+use Rattle.ledger_sql.specs.Schema.{balance_schema, ledger_schema, table}
 use Rattle.ledger_sql.proofs.InsertLemmas.{placed, inserted}
+use Rattle.ledger_sql.proofs.OverTables.{IsBefore, over_ledger}
 use Rattle.ledger_sql.proofs.WriteLemmas.{Means, WritesBy, wrote_inside, writes_stay, statement_writes}
 
 pub cast_null : cast Integer Null ≡ Null
@@ -153,15 +154,20 @@ pub record IsInserting (sql : List ℕ) (at : ℕ) (terms : List Term) (width tr
 pub inserting_means : {sql : List ℕ} {at : ℕ} {terms : List Term} {width tree : ℕ} {t : Table} {s : State} → IsInserting sql at terms width tree t s → Means sql (Insert at (Values terms width)) s
 inserting_means it = (it.mode, (_, refl, it.text.is, it.text.plain))
 
--- so it is over a ledger, and over the schema that an upgrade makes
-pub in_ledger : {sql : List ℕ} {at : ℕ} {terms : List Term} {width tree : ℕ} {t : Table} → ((s : Schema) → IsLedger s → IsInsertText sql s at terms width tree t) → (s : State) → (HasCleanDisk s → IsInside s)
+-- so it is over a ledger
+pub in_ledger : {sql : List ℕ} {at : ℕ} {terms : List Term} {width tree : ℕ} {t : Table} → IsBefore ledger_schema.tables (λ s. IsInsertText sql s at terms width tree t) → (s : State) → (HasCleanDisk s → IsInside s)
     → HasCleanDisk s → IsInserting sql at terms width tree t s
-in_ledger text s inside clean = record { mode = (inside clean).mode; text = text s.now.schema (inside clean).schema }
+in_ledger {sql} {at} {terms} {width} {tree} {t} text s inside clean = record { mode = (inside clean).mode; text = over_ledger (λ s. IsInsertText sql s at terms width tree t) text s.now.schema (inside clean).schema }
 
-pub in_making : {sql : List ℕ} {schema : Schema} {at : ℕ} {terms : List Term} {width tree : ℕ} {t : Table} → IsInsertText sql schema at terms width tree t → (s : State) → (HasCleanDisk s → IsMaking schema s)
+-- where it is so behind the tables of the balance schema
+pub in_balances : {sql : List ℕ} {at : ℕ} {terms : List Term} {width tree : ℕ} {t : Table} → IsBefore balance_schema.tables (λ s. IsInsertText sql s at terms width tree t) → (s : State) → (HasCleanDisk s → IsInside s)
     → HasCleanDisk s → IsInserting sql at terms width tree t s
-in_making {sql} {schema} {at} {terms} {width} {tree} {t} text s making clean =
-    record { mode = (making clean).mode; text = subst (λ schema. IsInsertText sql schema at terms width tree t) (sym (making clean).schema_is) text }
+in_balances {sql} {at} {terms} {width} {tree} {t} text = in_ledger {sql = sql} {at = at} {terms = terms} {width = width} {tree = tree} {t = t} (λ more. text (drop 8 ledger_schema.tables ++ more))
+
+pub in_making : {sql : List ℕ} {at : ℕ} {terms : List Term} {width tree : ℕ} {t : Table} → IsBefore balance_schema.tables (λ s. IsInsertText sql s at terms width tree t) → (s : State) → (HasCleanDisk s → IsMaking balance_schema s)
+    → HasCleanDisk s → IsInserting sql at terms width tree t s
+in_making {sql} {at} {terms} {width} {tree} {t} text s making clean =
+    record { mode = (making clean).mode; text = subst (λ schema. IsInsertText sql schema at terms width tree t) (sym (making clean).schema_is) (text [] balance_schema.indexes balance_schema.views) }
 
 -- the contract of a function that adds one tenant's rows
 pub add_writes : (sql : List ℕ) (at : ℕ) (terms : List Term) (width tree : ℕ) (t : Table) (tenant : ℤ) (many : ℕ) (added : List Row) (good params : Row) → params ≡ good

@@ -18,6 +18,7 @@ use Rattle.sqlite_sql.specs.declared.ops.BinaryOp.TheVariants.{Compare}
 use Rattle.sqlite_sql.specs.declared.ops.CompareOp.TheVariants.{Eq}
 use Rattle.sqlite_sql.specs.Ops.{binary, is_true, from_truth}
 use Rattle.sqlite_exec.proofs.RowsLemmas.{IsSorted-map}
+use Rattle.sqlite_exec.proofs.RunLemmas.{none_given}
 use Rattle.std.proofs.lemmas.List.{get_or-map, length-map}
 use Rattle.sqlite_sql.specs.Term.{Term, Env, lit, eval_all, holds}
 use Rattle.sqlite_sql.specs.Query.{Query, inner, end, IsAnswer, output, Output, output_cmp, key_cmp}
@@ -66,6 +67,10 @@ equals_text (Blob b) t = truth_of (is_eq (value_cmp (Blob b) (Text t))) ∙ ap i
 
 -- ---- one table
 
+-- where no tables are computed first, a tree is the file's
+pub no_lets : (db : Trees) (tree : ℕ) → overlay db [] tree ≡ db tree
+no_lets db tree = ap (λ (trees : Trees). trees tree) (none_given db)
+
 abbrev pub plain_query : ℕ → List Term → List Term → List (Term × Key) → Query
 plain_query tree terms shown order = record {
   from = inner tree end;
@@ -87,7 +92,7 @@ matched p params (r ∷ rows) = elim (p r) as (λ b. (cond b ((params ∷ r ∷ 
   | false ↦ matched p params rows
 ]
 
-module _ (tree : ℕ) (terms shown : List Term) (order : List (Term × Key)) (here : (db : Trees) → overlay db [] tree ≡ db tree) (db : Trees) (params : Row) where
+module _ (tree : ℕ) (terms shown : List Term) (order : List (Term × Key)) (db : Trees) (params : Row) where
   abbrev query : Query
   query = plain_query tree terms shown order
 
@@ -99,7 +104,7 @@ module _ (tree : ℕ) (terms shown : List Term) (order : List (Term × Key)) (he
 
   pub answered : (rows : List Row) → IsAnswer query (overlay db []) params rows → IsPermutation (map show (filter passes (db tree))) rows
   answered rows a =
-      let staged : a.staged ≡ map (λ r. params ∷ r ∷ []) (filter passes (db tree)) = a.grouped ∙ ap (flat_map (λ r. cond (passes r) ((params ∷ r ∷ []) ∷ []) [])) (here db) ∙ matched passes params (db tree) in
+      let staged : a.staged ≡ map (λ r. params ∷ r ∷ []) (filter passes (db tree)) = a.grouped ∙ ap (flat_map (λ r. cond (passes r) ((params ∷ r ∷ []) ∷ []) [])) (no_lets db tree) ∙ matched passes params (db tree) in
       let outputs : List Output = map (λ (r : Row). output query (params ∷ r ∷ [])) (filter passes (db tree)) in
       let kept : a.kept ≡ outputs = a.distinct ∙ ap (map (output query)) staged ∙ map-map (output query) (λ (r : Row). params ∷ r ∷ []) (filter passes (db tree)) in
       let moved = IsPermutation-map (λ (o : Output). o.1) outputs a.ordered (subst (λ k. IsPermutation k a.ordered) kept a.same) in
@@ -131,20 +136,23 @@ none_left : (xs : List Row) → IsPermutation xs [] → xs ≡ []
 none_left [] h = refl
 none_left (x ∷ xs) h = absurd (omega (arith, length_permutation (x ∷ xs) [] h))
 
--- a text that is a plain query over one table
-pub record IsPlainText (sql : List ℕ) (schema : Schema) (tree : ℕ) (terms shown : List Term) (order : List (Term × Key)) : Type 0 where
+-- a text that is this query
+pub record IsSelectText (sql : List ℕ) (schema : Schema) (query : Query) : Type 0 where
   pub names : List (List ℕ)
-  pub is : command_of (understood schema sql) ≡ Select (record { lets = []; body = plain_query tree terms shown order }) names
+  pub is : command_of (understood schema sql) ≡ Select (record { lets = []; body = query }) names
   pub plain : IsPlain (understood schema sql)
   pub unlisted : reads_listing schema sql ≡ false
-  pub here : (db : Trees) → overlay db [] tree ≡ db tree
+
+-- a plain one, over one table
+abbrev pub IsPlainText : List ℕ → Schema → ℕ → List Term → List Term → List (Term × Key) → Type 0
+IsPlainText sql schema tree terms shown order = IsSelectText sql schema (plain_query tree terms shown order)
 
 module _ (sql : List ℕ) (schema : Schema) (tree : ℕ) (terms shown : List Term) (order : List (Term × Key)) (text : IsPlainText sql schema tree terms shown order) (params : Row) (old new : State)
     (has : old.now.schema ≡ schema) where
-  pub all_shown : (rows : List Row) → Shown sql params old new rows → IsPermutation (map (show tree terms shown order text.here old.now.trees params) (filter (passes tree terms shown order text.here old.now.trees params) (old.now.trees tree))) rows
+  pub all_shown : (rows : List Row) → Shown sql params old new rows → IsPermutation (map (show tree terms shown order old.now.trees params) (filter (passes tree terms shown order old.now.trees params) (old.now.trees tree))) rows
   all_shown rows h =
       let got = reads_as sql params old new schema has (Select (record { lets = []; body = plain_query tree terms shown order }) text.names) text.is text.plain text.unlisted rows h in
-      answered tree terms shown order text.here old.now.trees params rows (got.answer Null)
+      answered tree terms shown order old.now.trees params rows (got.answer Null)
 
   pub all_ordered : (cmp : Row → Row → Ordering) → IsOrderedBy shown order cmp → (rows : List Row) → Shown sql params old new rows → IsSorted cmp rows
   all_ordered cmp same rows h =
@@ -155,8 +163,8 @@ module _ (sql : List ℕ) (schema : Schema) (tree : ℕ) (terms shown : List Ter
 
   -- the row that was found, or that there is none
   pub found_shown : (found : Option Row) → FindsFirst sql params old new found
-      → Picks (map (show tree terms shown order text.here old.now.trees params) (filter (passes tree terms shown order text.here old.now.trees params) (old.now.trees tree))) found
+      → Picks (map (show tree terms shown order old.now.trees params) (filter (passes tree terms shown order old.now.trees params) (old.now.trees tree))) found
   found_shown None h = none_left _ (all_shown [] h)
   found_shown (Some row) h =
       let got = first_as sql params old new schema has (Select (record { lets = []; body = plain_query tree terms shown order }) text.names) text.is text.plain text.unlisted row h in
-      (got.1.0, answered tree terms shown order text.here old.now.trees params (row ∷ got.1.0) (got.1.1 Null))
+      (got.1.0, answered tree terms shown order old.now.trees params (row ∷ got.1.0) (got.1.1 Null))

@@ -51,65 +51,28 @@ module _ (sql : List ℕ) (was : Schema) (table : Table) (text : IsCreateText sq
       statement_writes sql [] old new (Makes was table) CreateTable tt (λ m. record { was_open = m.shown.was_open; committed = m.shown.committed_is; unmarked = λ _ outside. absurd (let e = sym m.shown.mode ∙ outside in cc) })
       (λ clean. ((over clean).mode, (was, (over clean).schema_is, text.is, text.plain))) (λ clean. makes (over clean))
 
-abbrev pub make_schema_text : List ℕ
-make_schema_text = codes "CREATE TABLE schema (one INTEGER PRIMARY KEY NOT NULL CHECK (one = 1), version INTEGER NOT NULL) STRICT"
+-- the texts that make the tables, each behind those before it
+pub record CreateTexts : Type 0 where
+  pub schema : IsCreateText (codes "CREATE TABLE schema (one INTEGER PRIMARY KEY NOT NULL CHECK (one = 1), version INTEGER NOT NULL) STRICT") no_schema schema_table
+  pub tenant : IsCreateText (codes "CREATE TABLE tenant (no INTEGER PRIMARY KEY NOT NULL, name TEXT NOT NULL UNIQUE, digest BLOB NOT NULL UNIQUE CHECK (length(digest) = 32)) STRICT") after_schema tenant_table
+  pub clock : IsCreateText (codes "CREATE TABLE clock (tenant INTEGER PRIMARY KEY NOT NULL REFERENCES tenant (no), clock INTEGER NOT NULL) STRICT") after_tenant clock_table
+  pub account : IsCreateText (codes "CREATE TABLE account (tenant INTEGER NOT NULL REFERENCES tenant (no), id BLOB NOT NULL CHECK (length(id) = 16), user_data_128 BLOB NOT NULL CHECK (length(user_data_128) = 16), user_data_64 BLOB NOT NULL CHECK (length(user_data_64) = 8), user_data_32 INTEGER NOT NULL, ledger INTEGER NOT NULL, code INTEGER NOT NULL, flags INTEGER NOT NULL, timestamp INTEGER NOT NULL, PRIMARY KEY (tenant, id), UNIQUE (tenant, timestamp)) STRICT") after_clock account_table
+  pub transfer : IsCreateText (codes "CREATE TABLE transfer (tenant INTEGER NOT NULL REFERENCES tenant (no), id BLOB NOT NULL CHECK (length(id) = 16), debit BLOB NOT NULL CHECK (length(debit) = 16), credit BLOB NOT NULL CHECK (length(credit) = 16), amount BLOB NOT NULL CHECK (length(amount) = 16), pending_id BLOB NOT NULL CHECK (length(pending_id) = 16), user_data_128 BLOB NOT NULL CHECK (length(user_data_128) = 16), user_data_64 BLOB NOT NULL CHECK (length(user_data_64) = 8), user_data_32 INTEGER NOT NULL, timeout INTEGER NOT NULL, ledger INTEGER NOT NULL, code INTEGER NOT NULL, flags INTEGER NOT NULL, timestamp INTEGER NOT NULL, at_clock INTEGER NOT NULL, PRIMARY KEY (tenant, id), UNIQUE (tenant, timestamp)) STRICT") after_account transfer_table
+  pub balance : IsCreateText (codes "CREATE TABLE balance (tenant INTEGER NOT NULL REFERENCES tenant (no), account BLOB NOT NULL CHECK (length(account) = 16), dp BLOB NOT NULL CHECK (length(dp) = 16), dd BLOB NOT NULL CHECK (length(dd) = 16), cp BLOB NOT NULL CHECK (length(cp) = 16), cc BLOB NOT NULL CHECK (length(cc) = 16), PRIMARY KEY (tenant, account)) STRICT") list_schema balance_table
+  pub status : IsCreateText (codes "CREATE TABLE status (tenant INTEGER NOT NULL REFERENCES tenant (no), transfer BLOB NOT NULL CHECK (length(transfer) = 16), state INTEGER NOT NULL, due INTEGER NOT NULL, PRIMARY KEY (tenant, transfer)) STRICT") after_balance status_table
+  pub history : IsCreateText (codes "CREATE TABLE history (tenant INTEGER NOT NULL REFERENCES tenant (no), account BLOB NOT NULL CHECK (length(account) = 16), timestamp INTEGER NOT NULL, dp BLOB NOT NULL CHECK (length(dp) = 16), dd BLOB NOT NULL CHECK (length(dd) = 16), cp BLOB NOT NULL CHECK (length(cp) = 16), cc BLOB NOT NULL CHECK (length(cc) = 16), PRIMARY KEY (tenant, account, timestamp)) STRICT") after_status history_table
+  pub failed : IsCreateText (codes "CREATE TABLE failed (tenant INTEGER NOT NULL REFERENCES tenant (no), id BLOB NOT NULL CHECK (length(id) = 16), PRIMARY KEY (tenant, id)) STRICT") balance_schema failed_table
 
-pub make_schema_is : IsCreateText make_schema_text no_schema schema_table
+pub creating : CreateTexts
 unfolding understood everything
-make_schema_is = record { is = refl; statement = refl; plain = (refl, refl); defined = refl; uncounted = refl }
-
-abbrev pub make_tenant_text : List ℕ
-make_tenant_text = codes "CREATE TABLE tenant (no INTEGER PRIMARY KEY NOT NULL, name TEXT NOT NULL UNIQUE, digest BLOB NOT NULL UNIQUE CHECK (length(digest) = 32)) STRICT"
-
-pub make_tenant_is : IsCreateText make_tenant_text after_schema tenant_table
-unfolding understood everything
-make_tenant_is = record { is = refl; statement = refl; plain = (refl, refl); defined = refl; uncounted = refl }
-
-abbrev pub make_clock_text : List ℕ
-make_clock_text = codes "CREATE TABLE clock (tenant INTEGER PRIMARY KEY NOT NULL REFERENCES tenant (no), clock INTEGER NOT NULL) STRICT"
-
-pub make_clock_is : IsCreateText make_clock_text after_tenant clock_table
-unfolding understood everything
-make_clock_is = record { is = refl; statement = refl; plain = (refl, refl); defined = refl; uncounted = refl }
-
-abbrev pub make_account_text : List ℕ
-make_account_text = codes "CREATE TABLE account (tenant INTEGER NOT NULL REFERENCES tenant (no), id BLOB NOT NULL CHECK (length(id) = 16), user_data_128 BLOB NOT NULL CHECK (length(user_data_128) = 16), user_data_64 BLOB NOT NULL CHECK (length(user_data_64) = 8), user_data_32 INTEGER NOT NULL, ledger INTEGER NOT NULL, code INTEGER NOT NULL, flags INTEGER NOT NULL, timestamp INTEGER NOT NULL, PRIMARY KEY (tenant, id), UNIQUE (tenant, timestamp)) STRICT"
-
-pub make_account_is : IsCreateText make_account_text after_clock account_table
-unfolding understood everything
-make_account_is = record { is = refl; statement = refl; plain = (refl, refl); defined = refl; uncounted = refl }
-
-abbrev pub make_transfer_text : List ℕ
-make_transfer_text = codes "CREATE TABLE transfer (tenant INTEGER NOT NULL REFERENCES tenant (no), id BLOB NOT NULL CHECK (length(id) = 16), debit BLOB NOT NULL CHECK (length(debit) = 16), credit BLOB NOT NULL CHECK (length(credit) = 16), amount BLOB NOT NULL CHECK (length(amount) = 16), pending_id BLOB NOT NULL CHECK (length(pending_id) = 16), user_data_128 BLOB NOT NULL CHECK (length(user_data_128) = 16), user_data_64 BLOB NOT NULL CHECK (length(user_data_64) = 8), user_data_32 INTEGER NOT NULL, timeout INTEGER NOT NULL, ledger INTEGER NOT NULL, code INTEGER NOT NULL, flags INTEGER NOT NULL, timestamp INTEGER NOT NULL, at_clock INTEGER NOT NULL, PRIMARY KEY (tenant, id), UNIQUE (tenant, timestamp)) STRICT"
-
-pub make_transfer_is : IsCreateText make_transfer_text after_account transfer_table
-unfolding understood everything
-make_transfer_is = record { is = refl; statement = refl; plain = (refl, refl); defined = refl; uncounted = refl }
-
-abbrev pub make_balance_text : List ℕ
-make_balance_text = codes "CREATE TABLE balance (tenant INTEGER NOT NULL REFERENCES tenant (no), account BLOB NOT NULL CHECK (length(account) = 16), dp BLOB NOT NULL CHECK (length(dp) = 16), dd BLOB NOT NULL CHECK (length(dd) = 16), cp BLOB NOT NULL CHECK (length(cp) = 16), cc BLOB NOT NULL CHECK (length(cc) = 16), PRIMARY KEY (tenant, account)) STRICT"
-
-pub make_balance_is : IsCreateText make_balance_text list_schema balance_table
-unfolding understood everything
-make_balance_is = record { is = refl; statement = refl; plain = (refl, refl); defined = refl; uncounted = refl }
-
-abbrev pub make_status_text : List ℕ
-make_status_text = codes "CREATE TABLE status (tenant INTEGER NOT NULL REFERENCES tenant (no), transfer BLOB NOT NULL CHECK (length(transfer) = 16), state INTEGER NOT NULL, due INTEGER NOT NULL, PRIMARY KEY (tenant, transfer)) STRICT"
-
-pub make_status_is : IsCreateText make_status_text after_balance status_table
-unfolding understood everything
-make_status_is = record { is = refl; statement = refl; plain = (refl, refl); defined = refl; uncounted = refl }
-
-abbrev pub make_history_text : List ℕ
-make_history_text = codes "CREATE TABLE history (tenant INTEGER NOT NULL REFERENCES tenant (no), account BLOB NOT NULL CHECK (length(account) = 16), timestamp INTEGER NOT NULL, dp BLOB NOT NULL CHECK (length(dp) = 16), dd BLOB NOT NULL CHECK (length(dd) = 16), cp BLOB NOT NULL CHECK (length(cp) = 16), cc BLOB NOT NULL CHECK (length(cc) = 16), PRIMARY KEY (tenant, account, timestamp)) STRICT"
-
-pub make_history_is : IsCreateText make_history_text after_status history_table
-unfolding understood everything
-make_history_is = record { is = refl; statement = refl; plain = (refl, refl); defined = refl; uncounted = refl }
-
-abbrev pub make_failed_text : List ℕ
-make_failed_text = codes "CREATE TABLE failed (tenant INTEGER NOT NULL REFERENCES tenant (no), id BLOB NOT NULL CHECK (length(id) = 16), PRIMARY KEY (tenant, id)) STRICT"
-
-pub make_failed_is : IsCreateText make_failed_text balance_schema failed_table
-unfolding understood everything
-make_failed_is = record { is = refl; statement = refl; plain = (refl, refl); defined = refl; uncounted = refl }
+creating = record {
+  schema = record { is = refl; statement = refl; plain = (refl, refl); defined = refl; uncounted = refl };
+  tenant = record { is = refl; statement = refl; plain = (refl, refl); defined = refl; uncounted = refl };
+  clock = record { is = refl; statement = refl; plain = (refl, refl); defined = refl; uncounted = refl };
+  account = record { is = refl; statement = refl; plain = (refl, refl); defined = refl; uncounted = refl };
+  transfer = record { is = refl; statement = refl; plain = (refl, refl); defined = refl; uncounted = refl };
+  balance = record { is = refl; statement = refl; plain = (refl, refl); defined = refl; uncounted = refl };
+  status = record { is = refl; statement = refl; plain = (refl, refl); defined = refl; uncounted = refl };
+  history = record { is = refl; statement = refl; plain = (refl, refl); defined = refl; uncounted = refl };
+  failed = record { is = refl; statement = refl; plain = (refl, refl); defined = refl; uncounted = refl };
+}

@@ -29,7 +29,7 @@ use Rattle.ledger_sql.proofs.AnswerLemmas.{plain_query, equals_int}
 use Rattle.ledger_sql.proofs.KeyLemmas.{is_param, and_true}
 use Rattle.ledger_sql.proofs.PutLemmas.{put_more}
 use Rattle.ledger_sql.proofs.ReplaceLemmas.{taken_out, numbered_put, numbered_out, one_mapped}
-use Rattle.ledger_sql.proofs.SelectTexts.{over_ledger}
+use Rattle.ledger_sql.proofs.OverTables.{over_ledger}
 use Rattle.ledger_sql.proofs.SetLemmas.{IsUpdateText}
 use Rattle.ledger_sql.proofs.UpdateLemmas.{HasUpdated, no_works, updated, update_schema}
 use Rattle.ledger_sql.proofs.WriteLemmas.{WritesBy, wrote_inside, writes_stay, statement_writes}
@@ -70,7 +70,7 @@ module _ (number : ℤ) (digest : List ℕ) (old new : State) (inside : IsInside
   idle = no_works old.now.schema inside.schema 1 refl
 
   wrote : (new.now.schema ≡ old.now.schema) × Writes old new None (Update 1 (record { lets = []; body = plain_query 1 by_number (col 1 0 ∷ col 1 0 ∷ digest_set) [] })) (statement_of set_digest_text (understood old.now.schema set_digest_text)) good count
-  wrote = update_schema set_digest_text good old new 1 1 idle tenant_table text.listed by_number digest_set text.is text.plain (λ _. refl) count ran
+  wrote = update_schema set_digest_text good old new 1 1 idle tenant_table text.listed by_number digest_set text.is text.plain count ran
 
   digest_inside : WritesInside old new
   digest_inside = wrote_inside old new _ _ _ _ wrote.1 inside.mode wrote.0
@@ -97,8 +97,8 @@ module _ (number : ℤ) (digest : List ℕ) (old new : State) (inside : IsInside
     abbrev ys : List Row
     ys = without_rowid number rows
 
-    abbrev up : HasUpdated set_digest_text good old new 1 1 idle tenant_table text.listed by_number digest_set text.is text.plain (λ _. refl) r
-    up = (updated set_digest_text good old new 1 1 idle tenant_table text.listed by_number digest_set text.is text.plain (λ _. refl) count ran r (passing ∙ one_row.1)).0
+    abbrev up : HasUpdated set_digest_text good old new 1 1 idle tenant_table text.listed by_number digest_set text.is text.plain r
+    up = (updated set_digest_text good old new 1 1 idle tenant_table text.listed by_number digest_set text.is text.plain count ran r (passing ∙ one_row.1)).0
 
     id_path : id_in (column r 0) ≡ number
     id_path = ap id_in keyed

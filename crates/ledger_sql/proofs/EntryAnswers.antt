@@ -22,6 +22,7 @@ use Rattle.ledger_sql.specs.Entries.{entry_values, entries_when, ReadsFirst, Han
 use Rattle.ledger_sql.specs.Handing.{HandsRows}
 use Rattle.ledger_sql.specs.TableRows.{is_from, is_until}
 use Rattle.ledger_sql.proofs.EntryTexts.{entry_query, given_limit, IsEntryText, first_from_text, first_from_query, first_until_text, first_until_query}
+use Rattle.ledger_sql.proofs.ReadingTexts.{ledger_means}
 use Rattle.ledger_sql.proofs.EntryLemmas.{AreFirst, compares, compares_from, compares_until, keys, entries_shown, entries_begun}
 
 -- ---- the first of some entries
@@ -62,7 +63,7 @@ module _ (sql : List ℕ) (op : CompareOp) (descending : Bool) (limit : Term) (t
   much = as_count (eval limit (keys tenant account time more op in_time tests ∷ []))
 
   abbrev IsText : Type 0
-  IsText = IsEntryText sql old.now.schema op descending limit
+  IsText = IsEntryText op descending limit sql old.now.schema
 
   abbrev Saw : Type 0
   Saw = HasCleanDisk new × IsLedger old.now.schema
@@ -112,13 +113,13 @@ pub record ReadsSide (sql : List ℕ) (in_time : ℤ → Value → Bool) (cmp : 
   pub tests : (time : ℤ) (v : Value) → compares op time v ≡ in_time time v
   pub same : (x y : Env) → output_cmp (entry_query op descending given_limit) (output (entry_query op descending given_limit) x) (output (entry_query op descending given_limit) y)
       ≡ cmp (output (entry_query op descending given_limit) x).1 (output (entry_query op descending given_limit) y).1
-  pub means : (s : Schema) → IsLedger s → IsEntryText sql s op descending given_limit
+  pub means : (s : Schema) → IsLedger s → IsEntryText op descending given_limit sql s
 
 pub oldest : ReadsSide first_from_text is_from (λ a b. value_cmp (column a 1) (column b 1))
-oldest = record { op = Ge; descending = false; tests = compares_from; same = λ x y. then-Equal _; means = first_from_query.means }
+oldest = record { op = Ge; descending = false; tests = compares_from; same = λ x y. then-Equal _; means = ledger_means first_from_query }
 
 pub newest : ReadsSide first_until_text is_until (λ a b. value_cmp (column b 1) (column a 1))
-newest = record { op = Le; descending = true; tests = compares_until; same = λ x y. then-Equal _; means = first_until_query.means }
+newest = record { op = Le; descending = true; tests = compares_until; same = λ x y. then-Equal _; means = ledger_means first_until_query }
 
 pub entries_up_to : {sql : List ℕ} {in_time : ℤ → Value → Bool} {cmp : Row → Row → Ordering} {K : Type 0} (side : ReadsSide sql in_time cmp) (tenant : ℤ) (account : List ℕ) (time : ℤ) (count : ℕ) (old new : State) (key : Row)
     → key ≡ Int tenant ∷ Blob account ∷ Int time ∷ Int (pos count) ∷ [] → (takes : K → EntryCells → K → Type 0) (is_full : K → Bool) (before after : K) (r : Result (Unit {0}) TableFault) → HandsRows takes is_full sql key old new before after r

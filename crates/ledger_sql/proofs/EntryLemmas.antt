@@ -25,7 +25,7 @@ use Rattle.sqlite.specs.State.{State, Shown, Begins}
 use Rattle.sqlite.proofs.Callers.{reads_as, begins_as}
 use Rattle.ledger_sql.specs.Entries.{entries_when}
 use Rattle.ledger_sql.specs.TableRows.{cells_from, is_own, is_blob, is_same, is_beside, is_from, is_until, transfer_rows}
-use Rattle.ledger_sql.proofs.AnswerLemmas.{truth_of, equals, equals_int, equals_text, equals_blob, sorted_shown}
+use Rattle.ledger_sql.proofs.AnswerLemmas.{no_lets, truth_of, equals, equals_int, equals_text, equals_blob, sorted_shown}
 use Rattle.ledger_sql.proofs.KeyLemmas.{filter_both, and_true}
 use Rattle.ledger_sql.proofs.EntryTexts.{entry_terms, entry_query, IsEntryText}
 
@@ -151,7 +151,7 @@ module _ (tenant : ℤ) (account : List ℕ) (time : ℤ) (more : Row) (op : Com
       ∙ flat_map-map with_own history_cells (filter is_asked hs)
       ∙ flat_filter is_asked (λ h. with_own (history_cells h)) hs)
 
-  module _ (descending : Bool) (limit : Term) (history : (db : Trees) → overlay db [] 15 ≡ db 15) (transfers : (db : Trees) → overlay db [] 8 ≡ db 8) (db : Trees) where
+  module _ (descending : Bool) (limit : Term) (db : Trees) where
     abbrev query : Query
     query = entry_query op descending limit
 
@@ -161,8 +161,8 @@ module _ (tenant : ℤ) (account : List ℕ) (time : ℤ) (more : Row) (op : Com
     staged_is : (rows : List Row) (a : IsAnswer query (overlay db []) keys rows) → a.staged ≡ flat_map (λ h. map (seen h) (filter (passes h) (db 8))) (db 15)
     staged_is rows a =
         a.grouped
-        ∙ ap (flat_map (λ h. flat_map (λ t. cond (passes h t) (seen h t ∷ []) []) (overlay db [] 8))) (history db)
-        ∙ ap (λ ts. flat_map (λ h. flat_map (λ t. cond (passes h t) (seen h t ∷ []) []) ts) (db 15)) (transfers db)
+        ∙ ap (flat_map (λ h. flat_map (λ t. cond (passes h t) (seen h t ∷ []) []) (overlay db [] 8))) (no_lets db 15)
+        ∙ ap (λ ts. flat_map (λ h. flat_map (λ t. cond (passes h t) (seen h t ∷ []) []) ts) (db 15)) (no_lets db 8)
         ∙ flat_map_same_on _ (λ h. map (seen h) (filter (passes h) (db 8))) (λ h. found_each (passes h) (seen h) (db 8)) (db 15)
 
     abbrev cut : Option ℕ
@@ -190,7 +190,7 @@ module _ (tenant : ℤ) (account : List ℕ) (time : ℤ) (more : Row) (op : Com
       rows_are = a.shown;
     }
 
-module _ (sql : List ℕ) (schema : Schema) (op : CompareOp) (descending : Bool) (limit : Term) (text : IsEntryText sql schema op descending limit) (old new : State) (has : old.now.schema ≡ schema)
+module _ (sql : List ℕ) (schema : Schema) (op : CompareOp) (descending : Bool) (limit : Term) (text : IsEntryText op descending limit sql schema) (old new : State) (has : old.now.schema ≡ schema)
     (tenant : ℤ) (account : List ℕ) (time : ℤ) (more : Row) (in_time : Value → Bool) (tests : (v : Value) → compares op time v ≡ in_time v) (cmp : Row → Row → Ordering)
     (same : (x y : Env) → output_cmp (entry_query op descending limit) (output (entry_query op descending limit) x) (output (entry_query op descending limit) y)
     ≡ cmp (output (entry_query op descending limit) x).1 (output (entry_query op descending limit) y).1) where
@@ -206,9 +206,9 @@ module _ (sql : List ℕ) (schema : Schema) (op : CompareOp) (descending : Bool)
   pub entries_shown : (rows : List Row) → Shown sql given old new rows → AreFirst much entries cmp rows
   entries_shown rows h =
       let got = reads_as sql given old new schema has (Select (record { lets = []; body = entry_query op descending limit }) text.names) text.is text.plain text.unlisted rows h in
-      entries_answered tenant account time more op in_time tests descending limit text.history text.transfers old.now.trees cmp same rows (got.answer Null)
+      entries_answered tenant account time more op in_time tests descending limit old.now.trees cmp same rows (got.answer Null)
 
   pub entries_begun : (rows : List Row) → Begins sql given old rows → (tail : List Row) × AreFirst much entries cmp (rows ++ tail)
   entries_begun rows h =
       let got = begins_as sql given old new schema has (Select (record { lets = []; body = entry_query op descending limit }) text.names) text.is text.plain text.unlisted rows h in
-      (got.1.0, entries_answered tenant account time more op in_time tests descending limit text.history text.transfers old.now.trees cmp same (rows ++ got.1.0) (got.1.1 Null))
+      (got.1.0, entries_answered tenant account time more op in_time tests descending limit old.now.trees cmp same (rows ++ got.1.0) (got.1.1 Null))

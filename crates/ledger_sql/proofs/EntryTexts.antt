@@ -1,23 +1,19 @@
 -- What the texts mean that read an account's entries.
-use Rattle.std.proofs.Common.{◌≡◌, ℕ, zero, suc, ◌+◌, None, List, [], ◌∷◌, ◌++◌, codes, true, false, Bool, pos, refl}
+use Rattle.std.proofs.Common.{ℕ, zero, suc, ◌+◌, None, List, [], ◌∷◌, ◌++◌, codes, true, false, Bool, pos, refl}
 use Rattle.sqlite_value.specs.declared.keys.Collation.TheVariants.{Binary}
 use Rattle.sqlite_value.specs.declared.value.Value.TheVariants.{Int}
-use Rattle.sqlite_trees.specs.Tree.{Trees}
 use Rattle.sqlite_schema.specs.declared.schema.Schema.{Schema}
-use Rattle.sqlite_schema.specs.declared.command.Command.TheVariants.{Select}
 use Rattle.sqlite_sql.specs.declared.ops.BinaryOp.TheVariants.{Compare}
 use Rattle.sqlite_sql.specs.declared.ops.CompareOp.{CompareOp}
 use Rattle.sqlite_sql.specs.declared.ops.CompareOp.TheVariants.{Eq, Ge, Le}
 use Rattle.sqlite_sql.specs.Term.{Term, lit, col, op2}
 use Rattle.sqlite_sql.specs.Query.{Query, inner, end}
-use Rattle.sqlite_sql.specs.Program.{overlay}
 use Rattle.sqlite_tied.specs.Compute.{everything}
-use Rattle.sqlite.specs.Listing.{understood, reads_listing}
-use Rattle.sqlite.proofs.Callers.{IsPlain, command_of}
-use Rattle.ledger_sql.specs.Effects.{IsLedger}
+use Rattle.sqlite.specs.Listing.{understood}
+use Rattle.ledger_sql.specs.Schema.{ledger_schema}
 use Rattle.ledger_sql.specs.Queries.{IsReading}
-use Rattle.ledger_sql.proofs.SelectTexts.{over_ledger}
 use Rattle.ledger_sql.proofs.ReadingTexts.{IsQuery}
+use Rattle.ledger_sql.proofs.AnswerLemmas.{IsSelectText}
 
 -- so many columns of a table's row, from a place on
 abbrev pub columns_at : ℕ → ℕ → ℕ → List Term
@@ -51,24 +47,23 @@ entry_query bound descending limit = record {
   offset = lit (Int (pos 0));
 }
 
-pub record IsEntryText (sql : List ℕ) (schema : Schema) (bound : CompareOp) (descending : Bool) (limit : Term) : Type 0 where
-  pub names : List (List ℕ)
-  pub is : command_of (understood schema sql) ≡ Select (record { lets = []; body = entry_query bound descending limit }) names
-  pub plain : IsPlain (understood schema sql)
-  pub unlisted : reads_listing schema sql ≡ false
-  pub history : (db : Trees) → overlay db [] 15 ≡ db 15
-  pub transfers : (db : Trees) → overlay db [] 8 ≡ db 8
+abbrev pub IsEntryText : CompareOp → Bool → Term → List ℕ → Schema → Type 0
+IsEntryText bound descending limit text s = IsSelectText text s (entry_query bound descending limit)
+
+-- the texts that read an account's entries, by the side of a time that they ask for
+abbrev entry_reading : List ℕ → List ℕ
+entry_reading side = codes "SELECT history.account, history.timestamp, history.dp, history.dd, history.cp, history.cc, transfer.id, transfer.debit, transfer.credit, transfer.amount, transfer.pending_id, transfer.user_data_128, transfer.user_data_64, transfer.user_data_32, transfer.timeout, transfer.ledger, transfer.code, transfer.flags, transfer.timestamp, transfer.at_clock FROM history JOIN transfer ON transfer.tenant = ?1 AND transfer.timestamp = history.timestamp WHERE history.tenant = ?1 AND history.account = ?2 AND history.timestamp " ++ side
 
 abbrev pub first_from_text : List ℕ
-first_from_text = codes "SELECT history.account, history.timestamp, history.dp, history.dd, history.cp, history.cc, transfer.id, transfer.debit, transfer.credit, transfer.amount, transfer.pending_id, transfer.user_data_128, transfer.user_data_64, transfer.user_data_32, transfer.timeout, transfer.ledger, transfer.code, transfer.flags, transfer.timestamp, transfer.at_clock FROM history JOIN transfer ON transfer.tenant = ?1 AND transfer.timestamp = history.timestamp WHERE history.tenant = ?1 AND history.account = ?2 AND history.timestamp >= ?3 ORDER BY history.timestamp LIMIT ?4"
+first_from_text = entry_reading (codes ">= ?3 ORDER BY history.timestamp LIMIT ?4")
 
-pub first_from_query : IsQuery first_from_text IsLedger (λ s. IsEntryText first_from_text s Ge false given_limit)
+pub first_from_query : IsQuery ledger_schema.tables (IsEntryText Ge false given_limit) first_from_text
 unfolding understood everything IsReading
-first_from_query = record { reads = (tt, refl); means = over_ledger (λ s. IsEntryText first_from_text s Ge false given_limit) (λ more indexes views. record { names = _; is = refl; plain = (refl, refl); unlisted = refl; history = λ _. refl; transfers = λ _. refl }) }
+first_from_query = record { reads = (tt, refl); over = λ _ _ _. record { names = _; is = refl; plain = (refl, refl); unlisted = refl } }
 
 abbrev pub first_until_text : List ℕ
-first_until_text = codes "SELECT history.account, history.timestamp, history.dp, history.dd, history.cp, history.cc, transfer.id, transfer.debit, transfer.credit, transfer.amount, transfer.pending_id, transfer.user_data_128, transfer.user_data_64, transfer.user_data_32, transfer.timeout, transfer.ledger, transfer.code, transfer.flags, transfer.timestamp, transfer.at_clock FROM history JOIN transfer ON transfer.tenant = ?1 AND transfer.timestamp = history.timestamp WHERE history.tenant = ?1 AND history.account = ?2 AND history.timestamp <= ?3 ORDER BY history.timestamp DESC LIMIT ?4"
+first_until_text = entry_reading (codes "<= ?3 ORDER BY history.timestamp DESC LIMIT ?4")
 
-pub first_until_query : IsQuery first_until_text IsLedger (λ s. IsEntryText first_until_text s Le true given_limit)
+pub first_until_query : IsQuery ledger_schema.tables (IsEntryText Le true given_limit) first_until_text
 unfolding understood everything IsReading
-first_until_query = record { reads = (tt, refl); means = over_ledger (λ s. IsEntryText first_until_text s Le true given_limit) (λ more indexes views. record { names = _; is = refl; plain = (refl, refl); unlisted = refl; history = λ _. refl; transfers = λ _. refl }) }
+first_until_query = record { reads = (tt, refl); over = λ _ _ _. record { names = _; is = refl; plain = (refl, refl); unlisted = refl } }

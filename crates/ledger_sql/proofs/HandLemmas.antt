@@ -1,17 +1,17 @@
 -- Rows that are handed to a sink, one after the other.
-use Rattle.std.proofs.Common.{◌≡◌, ℕ, Bool, true, false, not, List, [], ◌∷◌, ◌++◌, map, None, Ok, Err, Result, OnOk, OnErr, refl, sym, subst, inl, inr}
+use Rattle.std.proofs.Common.{◌≡◌, ℕ, Bool, true, false, not, List, [], ◌∷◌, ◌++◌, map, None, Some, Ok, Err, Result, OnOk, OnErr, refl, sym, subst, inl, inr}
 use Rattle.std.specs.Prelude.{IsErr}
 use Rattle.records.specs.Streams.{TakesRows}
 use Rattle.sqlite_value.specs.Order.{Row}
 use Rattle.sqlite_trees.specs.declared.store.Store as store
 use Rattle.sqlite.specs.Given.{Advances}
 use Rattle.sqlite.specs.Held.{Held, state}
-use Rattle.sqlite.specs.State.{HasCleanDisk, Survives, Begins}
+use Rattle.sqlite.specs.State.{HasCleanDisk, IsUnchanged, Survives, Begins}
 use Rattle.ledger_sql.specs.declared.entry_cells.EntryCells.{EntryCells}
 use Rattle.ledger_sql.specs.Entries.{entry_values}
 use Rattle.ledger_sql.specs.Handing.{HandsRows}
 use Rattle.ledger_sql.specs.Queries.{IsReading}
-use Rattle.ledger_sql.proofs.StreamLemmas.{IsUnderWay, values_more, way_begins, earlier, way_ends}
+use Rattle.ledger_sql.proofs.StreamLemmas.{IsUnderWay, values_more, way_begins, earlier, moves, way_ends}
 
 -- a query is under way, and the sink has taken what it has given
 pub record IsHanding {S K : Type 0} (g : store.Ghosts S) (takes : K → EntryCells → K → Type 0) (sql : List ℕ) (params : Row) (first now : Held S) (old new : K) : Type 0 where
@@ -35,17 +35,18 @@ module _ {S K : Type 0} (g : store.Ghosts S) (takes : K → EntryCells → K →
   pub handing_begins : (now : Held S) → IsUnderWay g sql params first now [] → IsHanding g takes sql params first now old old
   handing_begins now way = record { handed = []; taken = refl; way = way }
 
-  pub handing_moves : (prev after : Held S) (mid new : K) (it : IsHanding g takes sql params first prev old mid) (entry : EntryCells) → takes mid entry new
-      → IsUnderWay g sql params first after (map entry_values it.handed ++ entry_values entry ∷ []) → IsHanding g takes sql params first after old new
-  handing_moves prev after mid new it entry took way = record {
-    handed = it.handed ++ entry ∷ [];
-    taken = takes_more takes old mid new it.handed entry it.taken took;
-    way = subst (IsUnderWay g sql params first after) (sym (values_more entry_values it.handed entry)) way;
-  }
-
   module _ (prev after : Held S) (mid : K) (it : IsHanding g takes sql params first prev old mid) (moved : Survives (state g prev) (state g after) (λ _. ⊥)) where
     begun : HasCleanDisk (state g after) → Begins sql params (state g first) (map entry_values it.handed)
     begun clean = way_begins g sql params first prev _ it.way (earlier g sql params first prev after _ it.way moved clean)
+
+    -- the entry that it has given was taken
+    pub handing_moves : (given : Row) (entry : EntryCells) → given ≡ entry_values entry → (HasCleanDisk (state g after) → Advances g prev after (Some given)) → (HasCleanDisk (state g after) → IsUnchanged (state g prev) (state g after))
+        → (new : K) → takes mid entry new → IsHanding g takes sql params first after old new
+    handing_moves given entry is advances same new took = record {
+      handed = it.handed ++ entry ∷ [];
+      taken = takes_more takes old mid new it.handed entry it.taken took;
+      way = subst (IsUnderWay g sql params first after) (sym (values_more entry_values it.handed entry)) (moves g sql params first prev after _ it.way moved given (entry_values entry) is advances same);
+    }
 
     -- the query is over: all was handed
     pub handed_all : {E : Type 0} (is_full : K → Bool) → IsReading sql → (HasCleanDisk (state g after) → Advances g prev after None)

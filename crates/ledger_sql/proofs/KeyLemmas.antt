@@ -11,7 +11,6 @@ use Rattle.sqlite_trees.proofs.ListLemmas.{filter-map, all_of, filter_same}
 use Rattle.sqlite_sql.specs.declared.ops.BinaryOp.TheVariants.{Compare}
 use Rattle.sqlite_sql.specs.declared.ops.CompareOp.TheVariants.{Eq}
 use Rattle.sqlite_sql.specs.Term.{Term, col, op2, eval_all, holds}
-use Rattle.sqlite_sql.specs.Program.{overlay}
 use Rattle.sqlite_schema.specs.declared.schema.Schema.{Schema}
 use Rattle.sqlite.specs.State.{State, HasCleanDisk, IsUnchanged}
 use Rattle.ledger_sql.specs.Calls.{LeavesRead, LeavesLearnt, LeavesFound, OverLedger}
@@ -62,8 +61,8 @@ module _ (tenant : ℤ) (id : List ℕ) where
 
   module _ (sql : List ℕ) (schema : Schema) (tree width : ℕ) (text : IsPlainText sql schema tree (is_param 1 0 ∷ is_param 2 1 ∷ []) (columns_from 2 (suc width)) []) (old new : State)
       (has : old.now.schema ≡ schema) where
-    same_rows : map (show tree (is_param 1 0 ∷ is_param 2 1 ∷ []) (columns_from 2 (suc width)) [] text.here old.now.trees keys)
-        (filter (passes tree (is_param 1 0 ∷ is_param 2 1 ∷ []) (columns_from 2 (suc width)) [] text.here old.now.trees keys) (old.now.trees tree))
+    same_rows : map (show tree (is_param 1 0 ∷ is_param 2 1 ∷ []) (columns_from 2 (suc width)) [] old.now.trees keys)
+        (filter (passes tree (is_param 1 0 ∷ is_param 2 1 ∷ []) (columns_from 2 (suc width)) [] old.now.trees keys) (old.now.trees tree))
         ≡ with_id id (rows_in tree (suc width) tenant old.now.trees)
     same_rows =
         let rows = old.now.trees tree in
@@ -147,11 +146,11 @@ there_read tenant id sql tree width text old new key is found finds reads (Ok th
 
 -- a text over one table, whatever it looks for
 pub view_picks : (rows : Trees → List Row) (sql : List ℕ) (tree : ℕ) (terms shown : List Term) (text : (s : Schema) → IsLedger s → IsPlainText sql s tree terms shown []) (good : Row) (old new : State)
-    → ((here : (db : Trees) → overlay db [] tree ≡ db tree) (db : Trees) → map (show tree terms shown [] here db good) (filter (passes tree terms shown [] here db good) (db tree)) ≡ rows db) → (key : Row) → key ≡ good
+    → ((db : Trees) → map (show tree terms shown [] db good) (filter (passes tree terms shown [] db good) (db tree)) ≡ rows db) → (key : Row) → key ≡ good
     → IsLedger old.now.schema → (row : Option Row) → FindsFirst sql key old new row → Picks (rows old.now.trees) row
 view_picks rows sql tree terms shown text good old new is key given ledger row finds =
     let it = text old.now.schema ledger in
-    subst (λ xs. Picks xs row) (is it.here old.now.trees) (found_shown sql old.now.schema tree terms shown [] it good old new refl row (subst (λ k. FindsFirst sql k old new row) given finds))
+    subst (λ xs. Picks xs row) (is old.now.trees) (found_shown sql old.now.schema tree terms shown [] it good old new refl row (subst (λ k. FindsFirst sql k old new row) given finds))
 
 pub clock_view : (tenant : ℤ) (db : Trees) → map (λ (r : Row). column r 2 ∷ []) (filter (λ r. list_all (holds ((Int tenant ∷ []) ∷ r ∷ [])) (is_param 0 0 ∷ [])) (db clock_tree)) ≡ clock_rows tenant db
 clock_view tenant db =

@@ -1,4 +1,5 @@
 pub mod RunLemmas
+pub mod OverTables
 pub mod SelectTexts
 pub mod StageLemmas
 pub mod MarkLemmas
@@ -32,4 +33,3 @@ pub mod SpanTexts
 pub mod SpanLemmas
 pub mod VersionText
 pub mod StreamLemmas
-pub mod FillTexts

@@ -1,5 +1,5 @@
 -- What setting a mark, going back to it and dropping it do.
-use Rattle.std.proofs.Common.{◌≡◌, ℕ, ◌+◌, ◌<◌, inl, inr, List, [], ◌∷◌, ◌++◌, length, map, take, codes, slice_get, get_or, length-append, not, true, false, IsTrue, Ok, Result, None, Some, OnOk, refl, sym, ap, subst, ◌∙◌, arith}
+use Rattle.std.proofs.Common.{◌≡◌, ℕ, ◌+◌, ◌<◌, inl, inr, List, [], ◌∷◌, ◌++◌, length, map, take, codes, slice_get, get_or, length-append, not, true, false, IsTrue, Ok, None, Some, sym, ap, subst, ◌∙◌, arith}
 use Rattle.std.proofs.lemmas.Bool.{both_ways}
 use Rattle.std.proofs.lemmas.Bool.{cases_lt}
 use Rattle.std.proofs.lemmas.List.{map-append, length-map}
@@ -7,18 +7,15 @@ use Rattle.std.proofs.lemmas.Option.{get_or_from_slice_get}
 use Rattle.std.proofs.Math.Seq.{get_or-append_seam, take-append_seam, take-append-add}
 use Rattle.sqlite_trees.specs.Tree.{Trees}
 use Rattle.sqlite_trees.specs.Sound.{same_name}
-use Rattle.sqlite_schema.specs.declared.command.Command.TheVariants.{Savepoint as Save, Release, RollbackTo}
-use Rattle.sqlite.specs.declared.error.Error.{Error}
+use Rattle.sqlite_schema.specs.declared.command.Command.TheVariants.{Release}
 use Rattle.sqlite.specs.Effect.{Database}
 use Rattle.sqlite.specs.Listing.{understood}
-use Rattle.sqlite.specs.State.{State, Savepoint, HasCleanDisk, Survives, Executes, MayCommit, CommitsBy, IsNewestNamed, names_in, begins_at}
 use Rattle.sqlite.proofs.Callers.{statement_of}
-use Rattle.sqlite.proofs.StateLemmas.{survives_weaker}
-use Rattle.ledger_sql.specs.Causes.{done_of}
-use Rattle.ledger_sql.specs.Frames.{Follows}
+use Rattle.sqlite.specs.State.{State, Savepoint, HasCleanDisk, Executes, MayCommit, IsNewestNamed, names_in, begins_at}
 use Rattle.ledger_sql.specs.Stages.{the_mark, IsMarked, HasMarked, HasGoneBack, HasReleased}
-use Rattle.ledger_sql.proofs.RunLemmas.{commits_as, Stays, follows_from, done_ok, done_stays}
-use Rattle.ledger_sql.proofs.StageLemmas.{mark_text, back_text, release_text, mark_is, back_is, release_is, ran, idle_survives}
+use Rattle.ledger_sql.proofs.RunLemmas.{Stays, shown_stays}
+use Rattle.ledger_sql.proofs.WriteLemmas.{WritesBy, writes_quietly}
+use Rattle.ledger_sql.proofs.StageLemmas.{stages, may_commit, idle_quiet, ran}
 
 newest : (front : List (List ℕ)) (at : ℕ) → IsNewestNamed (front ++ codes "mark" ∷ []) (codes "mark") at → at ≡ length front
 unfolding same_name
@@ -52,30 +49,23 @@ module _ (s : State) (earlier : List Savepoint) (db : Database) (marks : s.marks
   up_to_newest = ap (take (length earlier + 1)) marks ∙ take-append-add earlier (the_mark db ∷ []) 1 ∙ sym marks
 
 module _ (old new : State) where
-  marks_it : IsTrue old.in_transaction → (count : ℕ) → Executes mark_text [] old new (Ok count) → HasMarked old new × Stays old new
-  marks_it inside count h =
-      let it = (ran mark_text (Save (codes "mark")) mark_is old new count h).0 in (
+  -- the contract of the function that marks
+  pub marked : (HasCleanDisk old → IsTrue old.in_transaction) → WritesBy (codes "SAVEPOINT mark") [] HasMarked old new
+  marked inside = writes_quietly (codes "SAVEPOINT mark") [] old new HasMarked (λ _. idle_quiet stages.marks old tt) (λ clean count h.
+      let it = (ran stages.marks old new count h).0 in (
         record {
           is_open = it.0.is_open;
           now = it.0.now_is;
           committed = it.0.committed_is;
           mode = it.0.mode;
-          marks = it.2 ∙ ap (λ b. old.marks ++ (record { name = codes "mark"; begins = b; db = old.now }) ∷ []) (ap not inside);
+          marks = it.2 ∙ ap (λ b. old.marks ++ (record { name = codes "mark"; begins = b; db = old.now }) ∷ []) (ap not (inside clean));
         },
-        record { was_open = it.0.was_open; committed = it.0.committed_is; unmarked = λ _ outside. absurd (let e = sym it.0.mode ∙ outside in cc) },
-      )
+        shown_stays old new old.now it.0,
+      ))
 
-  module _ (inside : HasCleanDisk old → IsTrue old.in_transaction) where
-    pub marked : Survives old new (CommitsBy mark_text [] old) → (r : Result ℕ Error) → HasCleanDisk new → Executes mark_text [] old new r → OnOk (done_of r) (HasMarked old new)
-    marked survives r clean = done_ok mark_text [] old new _ (λ count h. (marks_it (inside (omega (arith, survives.clean, clean))) count h).0) r
-
-    pub mark_follows : (r : Result ℕ Error) → (HasCleanDisk new → Executes mark_text [] old new r) → Survives old new (CommitsBy mark_text [] old) → Follows old new
-    mark_follows r ran survives = follows_from old new (idle_survives mark_text (Save (codes "mark")) mark_is old new tt survives) (λ live.
-        done_stays mark_text [] old new (Stays old new) (λ count h. (marks_it (inside (omega (arith, survives.clean, live.0))) count h).1) r (λ h. h) live.1 (ran live.0))
-
-  goes_back : IsMarked old → (count : ℕ) → Executes back_text [] old new (Ok count) → HasGoneBack old new × Stays old new
+  goes_back : IsMarked old → (count : ℕ) → Executes (codes "ROLLBACK TO mark") [] old new (Ok count) → HasGoneBack old new × Stays old new
   goes_back was count h =
-      let it = ran back_text (RollbackTo (codes "mark")) back_is old new count h in
+      let it = ran stages.goes_back old new count h in
       let back = it.2 in
       let at : (earlier : List Savepoint) (db : Database) → old.marks ≡ earlier ++ the_mark db ∷ [] → it.0 ≡ length earlier = λ earlier db marks. newest_at old earlier db marks it.0 it.1 in (
         record {
@@ -85,12 +75,12 @@ module _ (old new : State) where
           mode = back.2.mode;
           marks = back.4 ∙ ap (λ n. take (n + 1) old.marks) (at was.0 was.1 was.2.marks) ∙ up_to_newest old was.0 was.1 was.2.marks;
         },
-        record { was_open = back.2.was_open; committed = back.2.committed_is; unmarked = λ _ outside. absurd (let e = sym back.2.mode ∙ outside in cc) },
+        shown_stays old new back.0.db back.2,
       )
 
-  release_drops : IsMarked old → (count : ℕ) → Executes release_text [] old new (Ok count) → HasReleased old new × Stays old new
+  release_drops : IsMarked old → (count : ℕ) → Executes (codes "RELEASE mark") [] old new (Ok count) → HasReleased old new × Stays old new
   release_drops was count h =
-      let it = ran release_text (Release (codes "mark")) release_is old new count h in
+      let it = ran stages.releases old new count h in
       let at : (earlier : List Savepoint) (db : Database) → old.marks ≡ earlier ++ the_mark db ∷ [] → it.0 ≡ length earlier = λ earlier db marks. newest_at old earlier db marks it.0 it.1 in
       let begins : begins_at old it.0 ≡ false = subst (λ n. begins_at old n ≡ false) (sym (at was.0 was.1 was.2.marks)) (newest_begins old was.0 was.1 was.2.marks) in
       elim it.2 [
@@ -103,7 +93,7 @@ module _ (old new : State) where
             mode = drops.1.0.mode;
             marks = λ earlier db marks. drops.1.2 ∙ ap (λ n. take n old.marks) (at earlier db marks) ∙ before_newest old earlier db marks;
           },
-          record { was_open = drops.1.0.was_open; committed = drops.1.0.committed_is; unmarked = λ _ outside. absurd (let e = sym drops.1.0.mode ∙ outside in cc) },
+          shown_stays old new old.now drops.1.0,
         )
       ]
 
@@ -116,20 +106,9 @@ module _ (old new : State) where
   release_may was text db (inr w) = absurd (let e = w.3 in cc)
 
   module _ (was : HasCleanDisk old → IsMarked old) where
-    pub gone_back : Survives old new (CommitsBy back_text [] old) → (r : Result ℕ Error) → HasCleanDisk new → Executes back_text [] old new r → OnOk (done_of r) (HasGoneBack old new)
-    gone_back survives r clean = done_ok back_text [] old new _ (λ count h. (goes_back (was (omega (arith, survives.clean, clean))) count h).0) r
+    -- the contracts of the functions that go back to the mark, and that release it
+    pub gone_back : WritesBy (codes "ROLLBACK TO mark") [] HasGoneBack old new
+    gone_back = writes_quietly (codes "ROLLBACK TO mark") [] old new HasGoneBack (λ _. idle_quiet stages.goes_back old tt) (λ clean. goes_back (was clean))
 
-    pub back_follows : (r : Result ℕ Error) → (HasCleanDisk new → Executes back_text [] old new r) → Survives old new (CommitsBy back_text [] old) → Follows old new
-    back_follows r ran survives = follows_from old new (idle_survives back_text (RollbackTo (codes "mark")) back_is old new tt survives) (λ live.
-        done_stays back_text [] old new (Stays old new) (λ count h. (goes_back (was (omega (arith, survives.clean, live.0))) count h).1) r (λ h. h) live.1 (ran live.0))
-
-    pub released : Survives old new (CommitsBy release_text [] old) → (r : Result ℕ Error) → HasCleanDisk new → Executes release_text [] old new r → OnOk (done_of r) (HasReleased old new)
-    released survives r clean = done_ok release_text [] old new _ (λ count h. (release_drops (was (omega (arith, survives.clean, clean))) count h).0) r
-
-    pub release_follows : (r : Result ℕ Error) → (HasCleanDisk new → Executes release_text [] old new r) → Survives old new (CommitsBy release_text [] old) → Follows old new
-    release_follows r ran survives =
-        let is = release_is old.now.schema in
-        let quiet : Survives old new (λ _. ⊥) = survives_weaker old new _ _ (λ clean db h.
-        release_may (was (omega (arith, survives.clean, clean))) (statement_of release_text (understood old.now.schema release_text)) db (commits_as release_text [] old old.now.schema refl (Release (codes "mark")) is.0 is.1 db h)) survives in
-        follows_from old new quiet (λ live.
-        done_stays release_text [] old new (Stays old new) (λ count h. (release_drops (was (omega (arith, survives.clean, live.0))) count h).1) r (λ h. h) live.1 (ran live.0))
+    pub released : WritesBy (codes "RELEASE mark") [] HasReleased old new
+    released = writes_quietly (codes "RELEASE mark") [] old new HasReleased (λ clean db h. release_may (was clean) (statement_of (codes "RELEASE mark") (understood old.now.schema (codes "RELEASE mark"))) db (may_commit stages.releases old db h)) (λ clean. release_drops (was clean))

@@ -23,7 +23,7 @@ use Rattle.ledger_sql.proofs.KeyLemmas.{is_param, columns_from, columns_shown, m
 use Rattle.ledger_sql.proofs.OwnTexts.{IsOwn}
 use Rattle.ledger_sql.proofs.WholeLemmas.{by_number}
 
-module _ (tenant : ℤ) (sql : List ℕ) (schema : Schema) (tree place width : ℕ) (order : List (Term × Key)) (text : IsOwn sql schema tree place width order) (old new : State)
+module _ (tenant : ℤ) (sql : List ℕ) (schema : Schema) (tree place width : ℕ) (order : List (Term × Key)) (text : IsOwn tree place width order sql schema) (old new : State)
     (has : old.now.schema ≡ schema) where
   abbrev keys : Row
   keys = Int tenant ∷ []
@@ -59,7 +59,7 @@ module _ (tenant : ℤ) (sql : List ℕ) (schema : Schema) (tree place width : �
 
 -- the contract of a function that reads them
 pub own_listed : {R Y E : Type 0} (values : R → Row) (cmp : R → R → Ordering) (items_of : Y → List R) (ours : Schema) (tenant : ℤ) (sql : List ℕ) (tree place width : ℕ) (order : List (Term × Key))
-    → ((s : Schema) → StartsAs ours.tables s → IsOwn sql s tree place width order) → (count : ℕ) → IsOrderedBy (columns_from 2 width) order (λ a b. row_cmp (take count a) (take count b))
+    → ((s : Schema) → StartsAs ours.tables s → IsOwn tree place width order sql s) → (count : ℕ) → IsOrderedBy (columns_from 2 width) order (λ a b. row_cmp (take count a) (take count b))
     → ((a b : R) → row_cmp (take count (values a)) (take count (values b)) ≡ cmp a b) → (old new : State) (key : Row) → key ≡ Int tenant ∷ [] → (got : Result Y E)
     → (HasCleanDisk new → IfOk got (λ y. Shown sql key old new (map values (items_of y)))) → LeavesRead old new got
     → LeavesListed ours (λ trees y. ReadsRows values cmp (map (cells_from 2 width) (filter (λ row. is_int tenant (column row place)) (trees tree))) (items_of y)) old new got

@@ -4,6 +4,7 @@ use Rattle.sqlite_ast.specs.declared.Statement.{Statement}
 use Rattle.sqlite_ast.specs.declared.Statement.TheVariants as written
 use Rattle.sqlite_syntax.specs.declared.statement.Parsed.{Parsed}
 use Rattle.sqlite_schema.specs.declared.schema.Schema.{Schema}
+use Rattle.sqlite_schema.specs.declared.schema.Table.{Table}
 use Rattle.sqlite_schema.specs.declared.command.Command.{Command}
 use Rattle.sqlite_resolve.specs.Lowering.{Checked, and_then}
 use Rattle.sqlite_resolve.specs.declared.compiled.Compiled.{Compiled}
@@ -11,12 +12,21 @@ use Rattle.sqlite_resolve.specs.declared.error.CompileError.{CompileError}
 use Rattle.sqlite_resolve.specs.declared.error.CompileError.TheVariants.{NoSuchTable}
 use Rattle.sqlite_resolve.specs.Compile.{compiled, first, planned, meaning, returning, timed, command, read, with_command}
 use Rattle.sqlite.specs.Listing.{understood, reads_listing, if_select, is_select, listing_schema}
+use Rattle.ledger_sql.specs.Schema.{ledger_schema}
+use Rattle.ledger_sql.specs.Effects.{IsLedger, StartsAs}
+use Rattle.ledger_sql.proofs.OverTables.{IsBefore, over_tables, over_ledger}
 use Rattle.ledger_sql.specs.Queries.{IsSelect, IsTimelessSelect, IsReading}
 
--- the text only reads, and over some schemas it means this
-pub record IsQuery (text : List ℕ) (Over Is : Schema → Type 0) : Type 0 where
+-- the text only reads, and where these tables come first it means this
+pub record IsQuery (ours : List Table) (Is : List ℕ → Schema → Type 0) (text : List ℕ) : Type 0 where
   pub reads : IsReading text
-  pub means : (s : Schema) → Over s → Is s
+  pub over : IsBefore ours (Is text)
+
+pub table_means : {ours : List Table} {Is : List ℕ → Schema → Type 0} {text : List ℕ} → IsQuery ours Is text → (s : Schema) → StartsAs ours s → Is text s
+table_means {ours} {Is} {text} query = over_tables ours (Is text) query.over
+
+pub ledger_means : {Is : List ℕ → Schema → Type 0} {text : List ℕ} → IsQuery ledger_schema.tables Is text → (s : Schema) → IsLedger s → Is text s
+ledger_means {Is} {text} query = over_ledger (Is text) query.over
 
 -- it has no RETURNING and does not read the time, or it is not understood
 abbrev pub IsCalm : Result Compiled CompileError → Type 0

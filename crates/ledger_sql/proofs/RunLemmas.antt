@@ -9,14 +9,14 @@ use Rattle.sqlite_resolve.specs.declared.compiled.Compiled.{Compiled}
 use Rattle.sqlite_resolve.specs.declared.error.CompileError.{CompileError}
 use Rattle.sqlite_trees.specs.declared.error.StoreError.{StoreError}
 use Rattle.sqlite_trees.specs.declared.error.StoreError.TheVariants.{OutOfMemory, Io, Corrupt, Full, Broken, Unstorable}
-use Rattle.sqlite.specs.Effect.{is_query}
+use Rattle.sqlite.specs.Effect.{Database, is_query}
 use Rattle.sqlite.specs.Calls.{IsWrite}
 use Rattle.sqlite.specs.Does.{Does}
 use Rattle.sqlite.specs.declared.error.Error.{Error}
 use Rattle.sqlite.specs.declared.error.Error.TheVariants.{SqliteFailure}
 use Rattle.sqlite.specs.declared.error.ErrorCode.TheVariants.{TransactionState}
 use Rattle.sqlite.specs.Listing.{understood}
-use Rattle.sqlite.specs.State.{State, IsUnchanged, IsNotRun, IsMisplaced, HasCause, Fails, Survives, Executes, ExecutesIn, RunsCommand, MayCommit, CommitsBy, mode_of, text_of, is_pragma, shows_rows, store_error}
+use Rattle.sqlite.specs.State.{State, Shows, IsUnchanged, IsNotRun, IsMisplaced, HasCause, Fails, Survives, Executes, ExecutesIn, RunsCommand, MayCommit, CommitsBy, mode_of, text_of, is_pragma, shows_rows, store_error}
 use Rattle.sqlite.proofs.Callers.{IsPlain, command_of, statement_of}
 use Rattle.sqlite.proofs.InsideLemmas.{fails_whole}
 use Rattle.ledger_sql.specs.Causes.{done_of}
@@ -115,12 +115,7 @@ may_be_stored (SqliteFailure code) = true
 may_be_stored e = false
 
 stored : (cause : StoreError) → may_be_stored (store_error cause) ≡ true
-stored OutOfMemory = refl
-stored Io = refl
-stored Corrupt = refl
-stored Full = refl
-stored Broken = refl
-stored Unstorable = refl
+stored = elim [ OutOfMemory ↦ refl | Io ↦ refl | Corrupt ↦ refl | Full ↦ refl | Broken ↦ refl | Unstorable ↦ refl ]
 
 pub never_stored : (e : Error) → may_be_stored e ≡ false → (cause : StoreError) → e ≢ store_error cause
 never_stored e never cause same = absurd (let both = sym (stored cause) ∙ ap may_be_stored (sym same) ∙ never in cc)
@@ -143,6 +138,10 @@ stays_left old new is_open (inr undone) = record {
   unmarked = λ _ _. undone.unmarked;
 }
 
+-- a change that the transaction shows, which goes on
+pub shown_stays : (old new : State) (now : Database) → Shows old new now old.committed true → Stays old new
+shown_stays old new now shown = record { was_open = shown.was_open; committed = shown.committed_is; unmarked = λ _ outside. absurd (let e = sym shown.mode ∙ outside in cc) }
+
 pub follows_from : (old new : State) → Survives old new (λ _. ⊥) → (Live new → Stays old new) → Follows old new
 follows_from old new survives stays =
     record { survives = survives; live = λ h. (stays h).was_open; committed = λ h. (stays h).committed; unmarked = λ h. (stays h).unmarked }
@@ -153,11 +152,10 @@ module _ (sql : List ℕ) (params : Row) (old new : State) where
   done_err (Ok count) h = tt
   done_err (Err e) h = fails_whole old new false sql params e h
 
-  module _ (P : Type 0) (ok : (count : ℕ) → Executes sql params old new (Ok count) → P) where
-    pub done_ok : (r : Result ℕ Error) → Executes sql params old new r → OnOk (done_of r) P
-    done_ok (Ok count) h = ok count h
-    done_ok (Err e) h = tt
+  pub done_ok : (P : Type 0) → ((count : ℕ) → Executes sql params old new (Ok count) → P) → (r : Result ℕ Error) → Executes sql params old new r → OnOk (done_of r) P
+  done_ok P ok (Ok count) h = ok count h
+  done_ok P ok (Err e) h = tt
 
-    pub done_stays : (r : Result ℕ Error) → (P → Stays old new) → IsTrue new.is_open → Executes sql params old new r → Stays old new
-    done_stays (Ok count) stays is_open h = stays (ok count h)
-    done_stays (Err e) stays is_open h = stays_left old new is_open (fails_whole old new false sql params e h)
+  pub done_stays : ((count : ℕ) → Executes sql params old new (Ok count) → Stays old new) → (r : Result ℕ Error) → IsTrue new.is_open → Executes sql params old new r → Stays old new
+  done_stays stays (Ok count) is_open h = stays count h
+  done_stays stays (Err e) is_open h = stays_left old new is_open (fails_whole old new false sql params e h)

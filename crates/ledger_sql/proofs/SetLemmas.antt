@@ -1,7 +1,8 @@
 -- What an UPDATE of one tenant's row does to the tenants' rows.
-use Rattle.std.proofs.Common.{◌≡◌, ◌≢◌, ℕ, ℤ, List, [], ◌∷◌, map, filter, slice_get, Bool, true, false, not, cond, ◌&&◌, ◌==◌, IsTrue, Some, Ok, refl, sym, ap, subst, ◌∙◌}
+use Rattle.std.proofs.Common.{◌≡◌, ◌≢◌, ℕ, ℤ, List, [], ◌∷◌, map, filter, slice_get, Bool, true, false, not, cond, ◌&&◌, ◌==◌, IsTrue, Some, Ok, refl, sym, ap, subst, ◌∙◌, arith}
 use Rattle.std.proofs.lemmas.Bool.Decides.{Decides-int_eq}
-use Rattle.std.specs.List.{AllByRecursion, list_any, list_all}
+use Rattle.std.proofs.lemmas.List.Elements.{filter_passes}
+use Rattle.std.specs.List.{All, AllByRecursion, list_any, list_all}
 use Rattle.std.specs.List.Sorted.{IsPermutation}
 use Rattle.std.proofs.lemmas.List.Sorted.{IsPermutation-map}
 use Rattle.std.specs.Ordering.{int_eq, is_eq}
@@ -13,9 +14,8 @@ use Rattle.sqlite_value.specs.Order.{Row, column, value_cmp}
 use Rattle.sqlite_value.proofs.OrderLemmas.{value_cmp-Int, value_cmp_total}
 use Rattle.sqlite_trees.specs.Tree.{Trees, rowid, put_row, without_rowid}
 use Rattle.sqlite_trees.specs.View as store
-use Rattle.sqlite_trees.proofs.ListLemmas.{IsPermutation-filter, filter-map, all_of, filter_same, all-filter, all_weaker}
+use Rattle.sqlite_trees.proofs.ListLemmas.{IsPermutation-filter, filter-map, all_of, filter_same, all-filter}
 use Rattle.sqlite_sql.specs.Term.{Term, col, eval_all, holds}
-use Rattle.sqlite_sql.specs.Program.{overlay}
 use Rattle.sqlite_schema.specs.declared.schema.Table.{Table}
 use Rattle.sqlite_schema.specs.declared.schema.Schema.{Schema}
 use Rattle.sqlite_schema.specs.declared.command.Command.TheVariants.{Update}
@@ -63,14 +63,6 @@ both_are : (a b : Bool) → (a && b) ≡ true → (a ≡ true) × (b ≡ true)
 both_are true b e = (refl, e)
 both_are false b e = absurd (cc)
 
-passing_all : (p : Row → Bool) (xs : List Row) → AllByRecursion (λ x. p x ≡ true) (filter p xs)
-passing_all p [] = tt
-passing_all p (x ∷ xs) = at (p x) refl (passing_all p xs)
-  where
-    at : (b : Bool) → p x ≡ b → AllByRecursion (λ x. p x ≡ true) (filter p xs) → AllByRecursion (λ x. p x ≡ true) (cond b (x ∷ filter p xs) (filter p xs))
-    at true is rest = (is, rest)
-    at false is rest = rest
-
 inner : (o t : Bool) → (not (o && t) && o) ≡ (o && not t)
 inner true true = refl
 inner true false = refl
@@ -79,7 +71,7 @@ inner false false = refl
 
 -- The place names the column that has the tenant's number; the row is set to all its values.
 module _ (sql : List ℕ) (at : ℕ) (terms set : List Term) (tree : ℕ) (t : Table) (means : (s : Schema) → IsLedger s → IsUpdateText sql s at terms set tree t)
-    (ours : list_any (λ u. u.tree == tree) ledger_schema.tables ≡ true) (here : (db : Trees) → overlay db [] tree ≡ db tree) (tenant : ℤ) (place many : ℕ) (test : Row → Bool)
+    (ours : list_any (λ u. u.tree == tree) ledger_schema.tables ≡ true) (tenant : ℤ) (place many : ℕ) (test : Row → Bool)
     (values full good params : Row) (same : params ≡ good) (passes_is : (r : Row) → list_all (holds (good ∷ r ∷ [])) terms ≡ (is_int tenant (column r place) && test (cells_from 2 many r)))
     (sets : (r : Row) → eval_all set (good ∷ r ∷ []) ≡ full) (casts : cast_all t.columns full ≡ full) (shape : (id : ℤ) → cells_from 2 many (Int id ∷ full) ≡ values)
     (keeps : (r : Row) (id : ℤ) → column r 0 ≡ Int id → is_int tenant (column r place) ≡ true → column (Int id ∷ full) place ≡ Int tenant) (old new : State) where
@@ -107,7 +99,7 @@ module _ (sql : List ℕ) (at : ℕ) (terms set : List Term) (tree : ℕ) (t : T
 
     set_inside : WritesInside old new
     set_inside =
-        let up = update_schema sql good old new at tree (no_works old.now.schema inside.schema tree ours) t text.listed terms set text.is text.plain here count ran in
+        let up = update_schema sql good old new at tree (no_works old.now.schema inside.schema tree ours) t text.listed terms set text.is text.plain count ran in
         wrote_inside old new _ _ _ _ up.1 inside.mode up.0
 
     module _ (row : Row) (one : filter test (view tenant old.now.trees) ≡ row ∷ []) (num : IsNumbered (old.now.trees tree)) where
@@ -123,8 +115,8 @@ module _ (sql : List ℕ) (at : ℕ) (terms set : List Term) (tree : ℕ) (t : T
       abbrev r : Row
       r = one_row.0
 
-      all_pass : AllByRecursion (λ x. p x ≡ true) (filter p rows)
-      all_pass = passing_all p rows
+      r_passes : p r ≡ true
+      r_passes = subst (All (λ x. p x ≡ true)) one_row.1 (filter_passes p rows) 0 r (omega arith)
 
       id_of : (id : ℤ) × (rowid r ≡ Int id)
       id_of = int_of (rowid r) (subst (AllByRecursion (λ x. IsTrue (store.is_int (rowid x)))) one_row.1 (all-filter (λ x. IsTrue (store.is_int (rowid x))) p rows num.whole)).0
@@ -133,13 +125,13 @@ module _ (sql : List ℕ) (at : ℕ) (terms set : List Term) (tree : ℕ) (t : T
       n = Int id_of.0 ∷ full
 
       column_n : column n place ≡ Int tenant
-      column_n = keeps r id_of.0 id_of.1 (both_are (own r) (test (cells r)) (subst (AllByRecursion (λ x. p x ≡ true)) one_row.1 all_pass).0).0
+      column_n = keeps r id_of.0 id_of.1 (both_are (own r) (test (cells r)) r_passes).0
 
       abbrev ys : List Row
       ys = without_rowid id_of.0 rows
 
-      abbrev up : HasUpdated sql good old new at tree (no_works old.now.schema inside.schema tree ours) t text.listed terms set text.is text.plain here r
-      up = (updated sql good old new at tree (no_works old.now.schema inside.schema tree ours) t text.listed terms set text.is text.plain here count ran r (passing ∙ one_row.1)).0
+      abbrev up : HasUpdated sql good old new at tree (no_works old.now.schema inside.schema tree ours) t text.listed terms set text.is text.plain r
+      up = (updated sql good old new at tree (no_works old.now.schema inside.schema tree ours) t text.listed terms set text.is text.plain count ran r (passing ∙ one_row.1)).0
 
       id_path : id_in (column r 0) ≡ id_of.0
       id_path = ap id_in id_of.1
@@ -170,7 +162,7 @@ module _ (sql : List ℕ) (at : ℕ) (terms set : List Term) (tree : ℕ) (t : T
           (IsPermutation-map cells (filter own (n ∷ ys)) (filter own (put_row n ys)) (IsPermutation-filter own (n ∷ ys) (put_row n ys) (put_more (n ∷ []) ys fresh)))
 
       no_other : (other : ℤ) → other ≢ tenant → AllByRecursion (λ x. has other x ≡ false) (filter p rows)
-      no_other other ne = all_weaker (λ x. p x ≡ true) (λ x. has other x ≡ false) (λ x pass. one_number tenant other (column x place) ne (both_are (own x) (test (cells x)) pass).0) (filter p rows) all_pass
+      no_other other ne = subst (AllByRecursion (λ x. has other x ≡ false)) (sym one_row.1) (one_number tenant other (column r place) ne (both_are (own r) (test (cells r)) r_passes).0, tt)
 
       pub sets_row : SetsRow view tree tenant test values old new
       sets_row =

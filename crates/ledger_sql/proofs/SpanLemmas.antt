@@ -21,7 +21,7 @@ use Rattle.ledger_sql.specs.Effects.{IsLedger}
 use Rattle.ledger_sql.specs.Entries.{ReadsUpTo}
 use Rattle.ledger_sql.specs.Spans.{rows_between, span_params}
 use Rattle.ledger_sql.specs.TableRows.{cells_from, is_own, is_from, is_until, rows_in}
-use Rattle.ledger_sql.proofs.AnswerLemmas.{equals_int, sorted_shown}
+use Rattle.ledger_sql.proofs.AnswerLemmas.{no_lets, equals_int, sorted_shown}
 use Rattle.ledger_sql.proofs.EntryLemmas.{AreFirst, compares_from, compares_until, found_each}
 use Rattle.ledger_sql.proofs.KeyLemmas.{columns_shown, filter_both, map_same, and_true}
 use Rattle.ledger_sql.proofs.SpanTexts.{span_terms, span_query, IsSpanText}
@@ -58,7 +58,7 @@ module _ (tree time width place : ℕ) (shows : (r : Row) → column (cells_from
       ap (map cells) (filter_same passes (λ r. is_own tenant r && in_span (cells r)) (db tree) (all_of _ passes_is (db tree)))
       ∙ sym (filter-map in_span cells (filter (is_own tenant) (db tree)) ∙ ap (map cells) (filter_both (is_own tenant) (λ r. in_span (cells r)) (db tree)))
 
-  module _ (descending : Bool) (here : (db : Trees) → overlay db [] tree ≡ db tree) (db : Trees) (cmp : Row → Row → Ordering)
+  module _ (descending : Bool) (db : Trees) (cmp : Row → Row → Ordering)
       (same : (x y : Env) → output_cmp (span_query tree time width descending) (output (span_query tree time width descending) x) (output (span_query tree time width descending) y)
       ≡ cmp (output (span_query tree time width descending) x).1 (output (span_query tree time width descending) y).1) where
     abbrev query : Query
@@ -71,7 +71,7 @@ module _ (tree time width place : ℕ) (shows : (r : Row) → column (cells_from
     ordered_all rows a =
         let show : Env → Row = λ env. eval_all query.project env in
         let kept : a.kept ≡ map (output query) a.staged = a.distinct in
-        let staged : a.staged ≡ map seen (filter passes (db tree)) = a.grouped ∙ ap (flat_map (λ r. cond (passes r) (seen r ∷ []) [])) (here db) ∙ found_each passes seen (db tree) in
+        let staged : a.staged ≡ map seen (filter passes (db tree)) = a.grouped ∙ ap (flat_map (λ r. cond (passes r) (seen r ∷ []) [])) (no_lets db tree) ∙ found_each passes seen (db tree) in
         let shown : map (λ (o : Output). o.1) a.kept ≡ there db =
         ap (map (λ (o : Output). o.1)) kept
         ∙ map-map (λ (o : Output). o.1) (output query) a.staged
@@ -90,7 +90,7 @@ module _ (tree time width place : ℕ) (shows : (r : Row) → column (cells_from
     }
 
   -- the contract of a function that reads the rows that such a text answers
-  pub span_read : {R Y : Type 0} (values : R → Row) (items_of : Y → List R) (Fits : Y → Type 0) (sql : List ℕ) (descending : Bool) → ((s : Schema) → IsLedger s → IsSpanText sql s tree time width descending)
+  pub span_read : {R Y : Type 0} (values : R → Row) (items_of : Y → List R) (Fits : Y → Type 0) (sql : List ℕ) (descending : Bool) → ((s : Schema) → IsLedger s → IsSpanText tree time width descending sql s)
       → ((x y : Env) → output_cmp (span_query tree time width descending) (output (span_query tree time width descending) x) (output (span_query tree time width descending) y)
       ≡ span_cmp place descending (output (span_query tree time width descending) x).1 (output (span_query tree time width descending) y).1) → (old new : State) (key : Row) → key ≡ keys → (got : Result Y Unavailable)
       → (HasCleanDisk new → IfOk got (λ y. Shown sql key old new (map values (items_of y)))) → IfOk got Fits → LeavesRead old new got
@@ -101,7 +101,7 @@ module _ (tree time width place : ℕ) (shows : (r : Row) → column (cells_from
         let rows : List Row = map values (items_of y) in
         let text = means old.now.schema ledger in
         let got = reads_as sql keys old new old.now.schema refl (Select (record { lets = []; body = span_query tree time width descending }) text.names) text.is text.plain text.unlisted rows (subst (λ k. Shown sql k old new rows) is (shown clean)) in
-        let those = span_answered descending text.here old.now.trees (span_cmp place descending) same rows (got.answer Null) in
+        let those = span_answered descending old.now.trees (span_cmp place descending) same rows (got.answer Null) in
         record { ordered = those.ordered; all = those.all; order = those.order; read_is = those.rows_are };
     fits = fits;
     reads = reads;

@@ -1,24 +1,21 @@
 -- What the texts mean that read a tenant's rows in a span of time.
-use Rattle.std.proofs.Common.{◌≡◌, ℕ, None, List, [], ◌∷◌, codes, true, false, Bool, pos, refl}
+use Rattle.std.proofs.Common.{ℕ, None, List, [], ◌∷◌, codes, true, false, Bool, pos, refl, ◌++◌, cond}
 use Rattle.sqlite_value.specs.declared.keys.Collation.TheVariants.{Binary}
 use Rattle.sqlite_value.specs.declared.value.Value.TheVariants.{Int}
-use Rattle.sqlite_trees.specs.Tree.{Trees}
 use Rattle.sqlite_schema.specs.declared.schema.Schema.{Schema}
-use Rattle.sqlite_schema.specs.declared.command.Command.TheVariants.{Select}
 use Rattle.sqlite_sql.specs.declared.ops.BinaryOp.TheVariants.{Compare}
 use Rattle.sqlite_sql.specs.declared.ops.CompareOp.TheVariants.{Ge, Le}
 use Rattle.sqlite_sql.specs.Term.{Term, lit, col, op2}
 use Rattle.sqlite_sql.specs.Query.{Query, inner, end}
-use Rattle.sqlite_sql.specs.Program.{overlay}
 use Rattle.sqlite_tied.specs.Compute.{everything}
-use Rattle.sqlite.specs.Listing.{understood, reads_listing}
-use Rattle.sqlite.proofs.Callers.{IsPlain, command_of}
-use Rattle.ledger_sql.specs.Effects.{IsLedger}
+use Rattle.sqlite.specs.Listing.{understood}
+use Rattle.ledger_sql.specs.Schema.{ledger_schema}
 use Rattle.ledger_sql.specs.Queries.{IsReading}
 use Rattle.ledger_sql.proofs.EntryTexts.{given_limit}
+use Rattle.ledger_sql.proofs.AnswerLemmas.{IsSelectText}
 use Rattle.ledger_sql.proofs.KeyLemmas.{is_param, columns_from}
-use Rattle.ledger_sql.proofs.SelectTexts.{over_ledger}
 use Rattle.ledger_sql.proofs.ReadingTexts.{IsQuery}
+use Rattle.ledger_sql.proofs.SelectTexts.{account_reading, transfer_reading}
 
 -- a tenant's rows between two times, whose timestamp is the column at a place
 abbrev pub span_terms : ℕ → List Term
@@ -39,37 +36,23 @@ span_query tree time width descending = record {
   offset = lit (Int (pos 0));
 }
 
-pub record IsSpanText (sql : List ℕ) (schema : Schema) (tree time width : ℕ) (descending : Bool) : Type 0 where
-  pub names : List (List ℕ)
-  pub is : command_of (understood schema sql) ≡ Select (record { lets = []; body = span_query tree time width descending }) names
-  pub plain : IsPlain (understood schema sql)
-  pub unlisted : reads_listing schema sql ≡ false
-  pub here : (db : Trees) → overlay db [] tree ≡ db tree
+abbrev pub IsSpanText : ℕ → ℕ → ℕ → Bool → List ℕ → Schema → Type 0
+IsSpanText tree time width descending text s = IsSelectText text s (span_query tree time width descending)
 
-abbrev pub oldest_accounts_text : List ℕ
-oldest_accounts_text = codes "SELECT id, user_data_128, user_data_64, user_data_32, ledger, code, flags, timestamp FROM account WHERE tenant = ?1 AND timestamp >= ?2 AND timestamp <= ?3 ORDER BY timestamp LIMIT ?4"
+-- what the texts ask more, in either order
+abbrev pub span_asked : Bool → List ℕ
+span_asked descending = codes " AND timestamp >= ?2 AND timestamp <= ?3 ORDER BY timestamp" ++ cond descending (codes " DESC LIMIT ?4") (codes " LIMIT ?4")
 
-pub oldest_accounts_query : IsQuery oldest_accounts_text IsLedger (λ s. IsSpanText oldest_accounts_text s 5 9 8 false)
+pub span_accounts : (descending : Bool) → IsQuery ledger_schema.tables (IsSpanText 5 9 8 descending) (account_reading (span_asked descending))
 unfolding understood everything IsReading
-oldest_accounts_query = record { reads = (tt, refl); means = over_ledger (λ s. IsSpanText oldest_accounts_text s 5 9 8 false) (λ more indexes views. record { names = _; is = refl; plain = (refl, refl); unlisted = refl; here = λ _. refl }) }
+span_accounts = elim [
+  | true ↦ record { reads = (tt, refl); over = λ _ _ _. record { names = _; is = refl; plain = (refl, refl); unlisted = refl } }
+  | false ↦ record { reads = (tt, refl); over = λ _ _ _. record { names = _; is = refl; plain = (refl, refl); unlisted = refl } }
+]
 
-abbrev pub newest_accounts_text : List ℕ
-newest_accounts_text = codes "SELECT id, user_data_128, user_data_64, user_data_32, ledger, code, flags, timestamp FROM account WHERE tenant = ?1 AND timestamp >= ?2 AND timestamp <= ?3 ORDER BY timestamp DESC LIMIT ?4"
-
-pub newest_accounts_query : IsQuery newest_accounts_text IsLedger (λ s. IsSpanText newest_accounts_text s 5 9 8 true)
+pub span_transfers : (descending : Bool) → IsQuery ledger_schema.tables (IsSpanText 8 14 14 descending) (transfer_reading (span_asked descending))
 unfolding understood everything IsReading
-newest_accounts_query = record { reads = (tt, refl); means = over_ledger (λ s. IsSpanText newest_accounts_text s 5 9 8 true) (λ more indexes views. record { names = _; is = refl; plain = (refl, refl); unlisted = refl; here = λ _. refl }) }
-
-abbrev pub oldest_transfers_text : List ℕ
-oldest_transfers_text = codes "SELECT id, debit, credit, amount, pending_id, user_data_128, user_data_64, user_data_32, timeout, ledger, code, flags, timestamp, at_clock FROM transfer WHERE tenant = ?1 AND timestamp >= ?2 AND timestamp <= ?3 ORDER BY timestamp LIMIT ?4"
-
-pub oldest_transfers_query : IsQuery oldest_transfers_text IsLedger (λ s. IsSpanText oldest_transfers_text s 8 14 14 false)
-unfolding understood everything IsReading
-oldest_transfers_query = record { reads = (tt, refl); means = over_ledger (λ s. IsSpanText oldest_transfers_text s 8 14 14 false) (λ more indexes views. record { names = _; is = refl; plain = (refl, refl); unlisted = refl; here = λ _. refl }) }
-
-abbrev pub newest_transfers_text : List ℕ
-newest_transfers_text = codes "SELECT id, debit, credit, amount, pending_id, user_data_128, user_data_64, user_data_32, timeout, ledger, code, flags, timestamp, at_clock FROM transfer WHERE tenant = ?1 AND timestamp >= ?2 AND timestamp <= ?3 ORDER BY timestamp DESC LIMIT ?4"
-
-pub newest_transfers_query : IsQuery newest_transfers_text IsLedger (λ s. IsSpanText newest_transfers_text s 8 14 14 true)
-unfolding understood everything IsReading
-newest_transfers_query = record { reads = (tt, refl); means = over_ledger (λ s. IsSpanText newest_transfers_text s 8 14 14 true) (λ more indexes views. record { names = _; is = refl; plain = (refl, refl); unlisted = refl; here = λ _. refl }) }
+span_transfers = elim [
+  | true ↦ record { reads = (tt, refl); over = λ _ _ _. record { names = _; is = refl; plain = (refl, refl); unlisted = refl } }
+  | false ↦ record { reads = (tt, refl); over = λ _ _ _. record { names = _; is = refl; plain = (refl, refl); unlisted = refl } }
+]

@@ -68,11 +68,11 @@ module _ {S : Type 0} (g : store.Ghosts S) (sql : List ℕ) (params : Row) (firs
     pub earlier : HasCleanDisk (state g after) → HasCleanDisk (state g prev)
     earlier clean = omega (arith, moved.clean, clean)
 
-    pub moves : (row : Row) → (HasCleanDisk (state g after) → Advances g prev after (Some row)) → (HasCleanDisk (state g after) → IsUnchanged (state g prev) (state g after))
+    pub moves : (given row : Row) → given ≡ row → (HasCleanDisk (state g after) → Advances g prev after (Some given)) → (HasCleanDisk (state g after) → IsUnchanged (state g prev) (state g after))
         → IsUnderWay g sql params first after (rows ++ row ∷ [])
-    moves row advances same = record {
+    moves given row is advances same = record {
       survives = survives_then (state g first) (state g prev) (state g after) _ _ _ (λ _ db none. none) (λ _ db none. none) it.survives moved;
-      given = λ clean. advances clean sql params rows (it.given (earlier clean));
+      given = λ clean. subst (λ r. HasGiven g sql params after (rows ++ r ∷ [])) is (advances clean sql params rows (it.given (earlier clean)));
       same = λ clean. unchanged_then _ _ _ (it.same (earlier clean)) (same clean);
     }
 

@@ -8,7 +8,6 @@ use Rattle.sqlite_value.specs.declared.value.Value.TheVariants.{Null}
 use Rattle.sqlite_value.specs.Order.{Row, column}
 use Rattle.sqlite_trees.specs.Tree.{Trees}
 use Rattle.sqlite_sql.specs.Term.{Term, col, eval_all, holds}
-use Rattle.sqlite_sql.specs.Program.{overlay}
 use Rattle.sqlite_schema.specs.declared.schema.Action.TheVariants.{NoAction}
 use Rattle.sqlite_schema.specs.declared.schema.Reference.{Reference}
 use Rattle.sqlite_schema.specs.declared.schema.Table.{Table}
@@ -158,8 +157,7 @@ no_older_works s is olds news =
 
 module _ (sql : List ℕ) (params : Row) (old new : State) (at tree : ℕ) (idle : (olds news : List Row) → works old.now.schema Enforced 0 tree olds news ≡ []) (t : Table)
     (listed : slice_get old.now.schema.tables at ≡ Some (placed tree (table t.name t.columns t.key t.primary t.uniques t.checks t.references))) (terms set : List Term)
-    (is : command_of (understood old.now.schema sql) ≡ Update at (record { lets = []; body = plain_query tree terms (col 1 0 ∷ col 1 0 ∷ set) [] })) (plain : IsPlain (understood old.now.schema sql))
-    (here : (db : Trees) → overlay db [] tree ≡ db tree) where
+    (is : command_of (understood old.now.schema sql) ≡ Update at (record { lets = []; body = plain_query tree terms (col 1 0 ∷ col 1 0 ∷ set) [] })) (plain : IsPlain (understood old.now.schema sql)) where
   abbrev it : Table
   it = placed tree (table t.name t.columns t.key t.primary t.uniques t.checks t.references)
 
@@ -187,7 +185,7 @@ module _ (sql : List ℕ) (params : Row) (old new : State) (at tree : ℕ) (idle
       let written = went given.2 in
       let trees : done.0.trees ≡ written.0 = ap (λ (x : Written). x.trees) (same_value written.2) in
       let show : Row → Row = λ r. column r 0 ∷ column r 0 ∷ eval_all set (params ∷ r ∷ []) in
-      let moved : IsPermutation (map show (filter passes (db tree))) given.0 = answered tree terms (col 1 0 ∷ col 1 0 ∷ set) [] here db params given.0 (given.1.answer Null) in
+      let moved : IsPermutation (map show (filter passes (db tree))) given.0 = answered tree terms (col 1 0 ∷ col 1 0 ∷ set) [] db params given.0 (given.1.answer Null) in
       let rows : given.0 ≡ show r ∷ [] = one_permutation (show r) given.0 (subst (λ xs. IsPermutation (map show xs) given.0) one moved) in
       let edit : List Row → Edit = λ rows. edit_of db it (ids_of rows) Given 1 rows in
       let none = idle (taken_by db (edit given.0)) (edit given.0).news in (

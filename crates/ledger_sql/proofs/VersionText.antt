@@ -29,7 +29,7 @@ use Rattle.ledger_sql.proofs.AddLemmas.{cast_null, cast_whole}
 use Rattle.ledger_sql.proofs.WriteLemmas.{WritesBy, wrote_inside, writes_stay, statement_writes}
 use Rattle.ledger_sql.proofs.AnswerLemmas.{plain_query}
 use Rattle.ledger_sql.proofs.ReplaceLemmas.{numbered_put, numbered_out, one_mapped, int_of}
-use Rattle.ledger_sql.proofs.SelectTexts.{over_ledger}
+use Rattle.ledger_sql.proofs.OverTables.{over_ledger}
 use Rattle.ledger_sql.proofs.SetLemmas.{IsUpdateText}
 use Rattle.ledger_sql.proofs.UpdateLemmas.{HasUpdated, no_works, no_older_works, updated, update_schema}
 
@@ -49,7 +49,7 @@ IsVersionText sql version schema = IsUpdateText sql schema 0 [] (version_set ver
 module _ (sql : List ℕ) (version : ℤ) (old new : State) (text : IsVersionText sql version old.now.schema) (idle : (olds news : List Row) → works old.now.schema Enforced 0 0 olds news ≡ [])
     (mode : IsTrue old.in_transaction) (count : ℕ) (ran : Executes sql [] old new (Ok count)) where
   wrote : (new.now.schema ≡ old.now.schema) × Writes old new None (Update 0 (record { lets = []; body = plain_query 0 [] (col 1 0 ∷ col 1 0 ∷ version_set version) [] })) (statement_of sql (understood old.now.schema sql)) [] count
-  wrote = update_schema sql [] old new 0 0 idle schema_table text.listed [] (version_set version) text.is text.plain (λ _. refl) count ran
+  wrote = update_schema sql [] old new 0 0 idle schema_table text.listed [] (version_set version) text.is text.plain count ran
 
   version_inside : WritesInside old new
   version_inside = wrote_inside old new _ _ _ _ wrote.1 mode wrote.0
@@ -67,8 +67,8 @@ module _ (sql : List ℕ) (version : ℤ) (old new : State) (text : IsVersionTex
     abbrev row : Row
     row = Int id_of.0 ∷ Null ∷ Int version ∷ []
 
-    abbrev up : HasUpdated sql [] old new 0 0 idle schema_table text.listed [] (version_set version) text.is text.plain (λ _. refl) r
-    up = (updated sql [] old new 0 0 idle schema_table text.listed [] (version_set version) text.is text.plain (λ _. refl) count ran r (ap (filter (λ _. true)) one_row.1)).0
+    abbrev up : HasUpdated sql [] old new 0 0 idle schema_table text.listed [] (version_set version) text.is text.plain r
+    up = (updated sql [] old new 0 0 idle schema_table text.listed [] (version_set version) text.is text.plain count ran r (ap (filter (λ _. true)) one_row.1)).0
 
     id_path : id_in (column r 0) ≡ id_of.0
     id_path = ap id_in id_of.1

@@ -20,13 +20,12 @@ use Rattle.ledger_sql.specs.Values.{version_values}
 use Rattle.ledger_sql.specs.Reading.{ReadsRows}
 use Rattle.ledger_sql.proofs.AnswerLemmas.{IsPlainText, IsOrderedBy, all_shown, all_ordered}
 use Rattle.ledger_sql.proofs.KeyLemmas.{columns_from, columns_shown, map_same}
-use Rattle.ledger_sql.proofs.WholeTexts.{IsWhole, version_text}
 
 all_pass : {A : Type 0} (xs : List A) → filter (λ _. true) xs ≡ xs
 all_pass [] = refl
 all_pass (x ∷ xs) = ap (λ l. x ∷ l) (all_pass xs)
 
-module _ (sql : List ℕ) (schema : Schema) (tree place width : ℕ) (order : List (Term × Key)) (text : IsWhole sql schema tree place width order) (old new : State)
+module _ (sql : List ℕ) (schema : Schema) (tree place width : ℕ) (order : List (Term × Key)) (text : IsPlainText sql schema tree [] (col 1 place ∷ columns_from 2 width) order) (old new : State)
     (has : old.now.schema ≡ schema) where
   all_read : (rows : List Row) → Shown sql [] old new rows → IsPermutation (map (λ row. column row place ∷ cells_from 2 width row) (old.now.trees tree)) rows
   all_read rows h =
@@ -58,11 +57,11 @@ pub version_view : (db : Trees) → map (λ (r : Row). eval_all (columns_from 2 
 version_view db = ap (map (λ (r : Row). column r 2 ∷ [])) (all_pass (db schema_tree))
 
 -- all versions that a file has
-pub versions_read : (schema : Schema) (text : IsPlainText version_text schema 0 [] (columns_from 2 1) []) (old new : State)
+pub versions_read : (sql : List ℕ) (schema : Schema) (text : IsPlainText sql schema 0 [] (columns_from 2 1) []) (old new : State)
     → old.now.schema ≡ schema → {Y E : Type 0} (items_of : Y → List ℤ) (got : Result Y E)
-    → IfOk got (λ y. Shown version_text [] old new (map version_values (items_of y)))
+    → IfOk got (λ y. Shown sql [] old new (map version_values (items_of y)))
     → IfOk got (λ y. IsPermutation (version_rows old.now.trees) (map version_values (items_of y)))
-versions_read schema text old new has items_of (Err e) ok = tt
-versions_read schema text old new has items_of (Ok y) ok =
+versions_read sql schema text old new has items_of (Err e) ok = tt
+versions_read sql schema text old new has items_of (Ok y) ok =
     subst (λ rows. IsPermutation rows (map version_values (items_of y))) (version_view old.now.trees)
-    (all_shown version_text schema 0 [] (columns_from 2 1) [] text [] old new has (map version_values (items_of y)) ok)
+    (all_shown sql schema 0 [] (columns_from 2 1) [] text [] old new has (map version_values (items_of y)) ok)

@@ -1,5 +1,5 @@
 -- What a statement that writes rows or makes a table leaves, inside a transaction.
-use Rattle.std.proofs.Common.{◌≡◌, ℕ, inl, inr, List, cond, IsTrue, None, Ok, Result, refl, sym, ap, ◌∙◌, arith}
+use Rattle.std.proofs.Common.{◌≡◌, ℕ, inl, inr, List, cond, IsTrue, None, Ok, Result, refl, ap, ◌∙◌, arith}
 use Rattle.sqlite_value.specs.Order.{Row}
 use Rattle.sqlite_trees.specs.Tree.{Trees}
 use Rattle.sqlite_schema.specs.declared.schema.Schema.{Schema}
@@ -12,7 +12,7 @@ use Rattle.sqlite.proofs.StateLemmas.{survives_weaker}
 use Rattle.std.proofs.lemmas.Bool.{both_ways}
 use Rattle.ledger_sql.specs.Causes.{done_of}
 use Rattle.ledger_sql.specs.Calls.{LeavesWritten}
-use Rattle.ledger_sql.proofs.RunLemmas.{Stays, commits_as, done_ok, done_err, done_stays, follows_from}
+use Rattle.ledger_sql.proofs.RunLemmas.{Stays, shown_stays, commits_as, done_ok, done_err, done_stays, follows_from}
 use Rattle.ledger_sql.specs.Effects.{WritesInside}
 use Rattle.sqlite.proofs.Callers.{IsPlain, command_of, statement_of}
 
@@ -32,7 +32,7 @@ wrote_inside old new command text params count w inside same = record {
 }
 
 pub writes_stay : (old new : State) → WritesInside old new → Stays old new
-writes_stay old new w = record { was_open = w.shown.was_open; committed = w.shown.committed_is; unmarked = λ _ outside. absurd (let e = sym w.shown.mode ∙ outside in cc) }
+writes_stay old new w = shown_stays old new new.now w.shown
 
 -- a command that writes rows commits nothing inside a transaction
 abbrev IsOnRows : Command → Type 0
@@ -62,16 +62,21 @@ abbrev pub WritesBy : List ℕ → Row → (State → State → Type 0) → Stat
 WritesBy sql params Effect old new =
     Survives old new (CommitsBy sql params old) → (r : Result ℕ Error) → (HasCleanDisk new → Executes sql params old new r) → LeavesWritten Effect old new (done_of r)
 
+-- the contract of a function whose text commits nothing
+pub writes_quietly : (sql : List ℕ) (params : Row) (old new : State) (Effect : State → State → Type 0) → (HasCleanDisk old → (db : Trees) → ¬ CommitsBy sql params old db)
+    → (HasCleanDisk old → (count : ℕ) → Executes sql params old new (Ok count) → Effect old new × Stays old new) → WritesBy sql params Effect old new
+writes_quietly sql params old new Effect quiet does survives r ran =
+    let was : HasCleanDisk new → HasCleanDisk old = λ clean. omega (arith, survives.clean, clean) in
+    record {
+      ok = λ clean. done_ok sql params old new (Effect old new) (λ count h. (does (was clean) count h).0) r (ran clean);
+      err = λ clean. done_err sql params old new r (ran clean);
+      follows = follows_from old new (survives_weaker old new _ _ (λ clean db h. quiet (was clean) db h) survives) (λ live. done_stays sql params old new (λ count h. (does (was live.0) count h).1) r live.1 (ran live.0));
+    }
+
 -- the contract of a function that writes inside a transaction
 pub statement_writes : (sql : List ℕ) (params : Row) (old new : State) (Effect : State → State → Type 0) (command : Command) → IsOnRows command → (Effect old new → Stays old new) → (HasCleanDisk old → Means sql command old)
     → (HasCleanDisk old → (count : ℕ) → Executes sql params old new (Ok count) → Effect old new) → WritesBy sql params Effect old new
-statement_writes sql params old new Effect command on stays means ok survives r ran =
-    let was : HasCleanDisk new → HasCleanDisk old = λ clean. omega (arith, survives.clean, clean) in
-    let quiet : Survives old new (λ _. ⊥) = survives_weaker old new _ _ (λ clean db h.
-    let it = means (was clean) in
-    rows_commit old command (statement_of sql (understood it.1.0 sql)) params db it.0 on (commits_as sql params old it.1.0 it.1.1 command it.1.2 it.1.3 db h)) survives in
-    record {
-      ok = λ clean. done_ok sql params old new (Effect old new) (ok (was clean)) r (ran clean);
-      err = λ clean. done_err sql params old new r (ran clean);
-      follows = follows_from old new quiet (λ live. done_stays sql params old new (Effect old new) (ok (was live.0)) r stays live.1 (ran live.0));
-    }
+statement_writes sql params old new Effect command on stays means ok =
+    writes_quietly sql params old new Effect
+    (λ clean db h. let it = means clean in rows_commit old command (statement_of sql (understood it.1.0 sql)) params db it.0 on (commits_as sql params old it.1.0 it.1.1 command it.1.2 it.1.3 db h))
+    (λ clean count h. let made = ok clean count h in (made, stays made))

@@ -18,7 +18,7 @@ use Rattle.sqlite_schema.specs.declared.schema.Schema.{Schema}
 use Rattle.sqlite_catalog.specs.Change.{created}
 
 -- a column of a STRICT table, never NULL
-abbrev column_of : List ℕ → Kind → Column
+abbrev pub column_of : List ℕ → Kind → Column
 column_of name kind = record {
   name = name;
   kind = kind;

@@ -11,12 +11,21 @@ ghost use Rattle.ledger_sql.specs.TableRows.{version_rows, directory_rows, clock
 ghost use Rattle.ledger_sql.specs.Values.{version_values, directory_values, clock_values, account_values, transfer_values, balance_values, status_values, history_values, id_values};
 
 use crate::cause::done;
+use crate::params::balance_params;
 use records::{Account, Transfer, Unavailable};
 use rows::{
     AccountCells, BalanceCells, BalanceRow, HistoryCells, HistoryRow, StatusCells, StatusRow,
     TransferCells,
 };
 use sqlite::{Alter, Connection, params};
+
+/// A row of balances more.
+pub(crate) const INSERT_BALANCE: &str =
+    "INSERT INTO balance (tenant, account, dp, dd, cp, cc) VALUES (?1, ?2, ?3, ?4, ?5, ?6)";
+
+/// A state of a pending transfer more.
+pub(crate) const INSERT_STATUS: &str =
+    "INSERT INTO status (tenant, transfer, state, due) VALUES (?1, ?2, ?3, ?4)";
 
 /// Adds the current version of the schema to a file that has none.
 pub fn add_version<S: Alter>(conn: &mut Connection<S>) -> Result<(), Unavailable>
@@ -138,17 +147,7 @@ pub fn add_balance<S: Alter>(
         (balance_values (balance_cells row.now) ∷ [])) S.Store conn.old conn.new result }
 {
     let cells = BalanceCells::from_row(row);
-    done(conn.execute(
-        "INSERT INTO balance (tenant, account, dp, dd, cp, cc) VALUES (?1, ?2, ?3, ?4, ?5, ?6)",
-        params![
-            tenant,
-            cells.account.as_slice(),
-            cells.dp.as_slice(),
-            cells.dd.as_slice(),
-            cells.cp.as_slice(),
-            cells.cc.as_slice()
-        ],
-    ))
+    done(conn.execute(INSERT_BALANCE, &balance_params(tenant, &cells)))
 }
 
 /// Adds what has become of a tenant's new pending transfer.
@@ -164,7 +163,7 @@ pub fn add_status<S: Alter>(
 {
     let cells = StatusCells::from_row(row);
     done(conn.execute(
-        "INSERT INTO status (tenant, transfer, state, due) VALUES (?1, ?2, ?3, ?4)",
+        INSERT_STATUS,
         params![tenant, cells.transfer.as_slice(), cells.state, cells.due],
     ))
 }

@@ -9,6 +9,7 @@ mod entry_cells;
 mod entry_sink;
 pub mod finding;
 pub mod listing;
+mod params;
 mod query;
 mod read;
 pub mod setting;

@@ -12,6 +12,7 @@ ghost use Rattle.ledger_sql.specs.TableRows.{clock_rows, balance_rows, status_ro
 ghost use Rattle.ledger_sql.specs.Values.{clock_values, balance_values, status_values};
 
 use crate::cause::done;
+use crate::params::balance_params;
 use records::Unavailable;
 use rows::{BalanceCells, BalanceRow, StatusCells, StatusRow};
 use sqlite::{Alter, Connection, params};
@@ -30,14 +31,7 @@ pub fn set_balance<S: Alter>(
     done(conn.execute(
         "UPDATE balance SET tenant = ?1, account = ?2, dp = ?3, dd = ?4, cp = ?5, cc = ?6 WHERE \
             tenant = ?1 AND account = ?2",
-        params![
-            tenant,
-            cells.account.as_slice(),
-            cells.dp.as_slice(),
-            cells.dd.as_slice(),
-            cells.cp.as_slice(),
-            cells.cc.as_slice()
-        ],
+        &balance_params(tenant, &cells),
     ))
 }
 

@@ -9,7 +9,9 @@ ghost use Rattle.ledger_sql.specs.Schema.{balance_schema, balance_tree, status_t
 ghost use Rattle.ledger_sql.specs.TableRows.{balance_rows, status_rows, history_rows};
 ghost use Rattle.ledger_sql.specs.Values.{balance_values, status_values, history_values};
 
+use crate::adding::{INSERT_BALANCE, INSERT_STATUS};
 use crate::cause::done;
+use crate::params::balance_params;
 use records::Unavailable;
 use rows::{BalanceCells, HistoryCells, StatusCells};
 use sqlite::{Alter, Connection, params};
@@ -24,17 +26,7 @@ pub fn fill_balance<S: Alter>(
     ensures { Writes (AddsRows balance_rows balance_tree tenant (balance_values cells.now ∷ []))
         S.Store conn.old conn.new result }
 {
-    done(conn.execute(
-        "INSERT INTO balance (tenant, account, dp, dd, cp, cc) VALUES (?1, ?2, ?3, ?4, ?5, ?6)",
-        params![
-            tenant,
-            cells.account.as_slice(),
-            cells.dp.as_slice(),
-            cells.dd.as_slice(),
-            cells.cp.as_slice(),
-            cells.cc.as_slice()
-        ],
-    ))
+    done(conn.execute(INSERT_BALANCE, &balance_params(tenant, cells)))
 }
 
 /// Adds what has become of a tenant's pending transfer.
@@ -48,7 +40,7 @@ pub fn fill_status<S: Alter>(
         S.Store conn.old conn.new result }
 {
     done(conn.execute(
-        "INSERT INTO status (tenant, transfer, state, due) VALUES (?1, ?2, ?3, ?4)",
+        INSERT_STATUS,
         params![tenant, cells.transfer.as_slice(), cells.state, cells.due],
     ))
 }

@@ -1,5 +1,5 @@
 -- A ledger that is migrated.
-use Rattle.std.proofs.Common.{◌≡◌, ◌<◌, ◌≤◌, ℕ, Bool, true, false, not, IsTrue, ◌↔◌, Result, Ok, Err, refl, sym, ap, subst, ◌∙◌, arith}
+use Rattle.std.proofs.Common.{◌≡◌, ◌≢◌, ◌<◌, ◌≤◌, ℕ, Bool, true, false, not, IsTrue, ◌↔◌, Result, Ok, Err, refl, sym, ap, subst, ◌∙◌, arith}
 use Rattle.std.proofs.lemmas.Bool.{both_ways}
 use Rattle.records.specs.declared.unavailable.Unavailable.TheVariants.{Disk as DiskFailed}
 use Rattle.sqlite_disk.specs.declared.Disk as disk
@@ -9,11 +9,14 @@ use Rattle.sqlite.specs.State.{State, HasCleanDisk, Survives}
 use Rattle.sqlite.proofs.StateLemmas.{survives_then, survives_weaker}
 use Rattle.ledger_sql.specs.Frames.{Follows, Live}
 use Rattle.stored_tables.specs.BatchLaws.{follows_itself}
+use Rattle.stored_ledgers.specs.DueSets.{DueSets}
 use Rattle.stored_ledgers.specs.Resting.{IsQuiet, IsSame}
 use Rattle.openings.specs.declared.opening.OpenFault.{OpenFault}
 use Rattle.openings.specs.declared.opening.OpenFault.TheVariants as opening
 use Rattle.migrate.specs.Faults.{upgrade_fault}
 use Rattle.migrate.specs.Ledgers.{IsMigratable, state_of}
+use Rattle.migrate.specs.Migrating.{LeavesLedger}
+use Rattle.migrate.specs.Raising.{RaisesOrTells}
 use Rattle.migrate.specs.Upgrading.{IsOlder, IsRaised, Raised, older_schema}
 use Rattle.migrate.specs.UpgradingLaws.{raised_older, raised_resting, still_older}
 use Rattle.migrate.specs.declared.fault.MigrateFault.{MigrateFault}
@@ -114,4 +117,33 @@ module _ {D : Type 0} (g : disk.Ghosts D) where
     older = λ two live. raised_older v new.version new.due old (state_of new) known less two (raised live.0) (quiet live.0) live.1;
     current = λ three live. raised_resting new.version new.due old (state_of new) three (raised live.0) (quiet live.0);
     is_open = λ _ clean. is_open clean;
+  }
+
+  -- a migration that changes nothing leaves it so
+  pub leaves_unmoved : {A : Type 0} (to : ℕ) (ledger : LedgerOfVersion D g) (answer : Result A MigrateFault)
+      → IsMigratable ledger → answer ≢ Err (fault.Unavailable DiskFailed) → LeavesLedger to ledger ledger answer
+  leaves_unmoved to ledger answer is no_disk = record {
+    honest = λ clean. clean;
+    lived = λ live. live;
+    is_open = λ clean ready _. is.is_open ready clean;
+    ready = λ _. refl;
+    disk = λ told. absurd (no_disk told);
+    finds = survives_itself (state_of ledger) _;
+  }
+
+  -- and so does one that raised it, or tried to, and tells a fault of the disk just where that did
+  pub leaves_raised : {A : Type 0} {to : ℕ} {raised : Result DueSets MigrateFault} {answer : Result A MigrateFault}
+      (old new : LedgerOfVersion D g) (failed : Bool) → IsMigratable old → IsTrue old.ready
+      → RaisesOrTells (fault.Unavailable DiskFailed) to (state_of old) (state_of new) raised
+      → (IsTrue failed ↔ (raised ≡ Err (fault.Unavailable DiskFailed))) → new.ready ≡ not failed
+      → ((raised ≡ Err (fault.Unavailable DiskFailed)) ↔ (answer ≡ Err (fault.Unavailable DiskFailed)))
+      → LeavesLedger to old new answer
+  leaves_raised old new failed is answers raises tells now alike = record {
+    honest = λ clean. omega (arith, raises.raises.survives.clean, clean);
+    lived = λ live.
+        let clean = live.0 in answers_live old is answers (omega (arith, raises.raises.survives.clean, clean));
+    is_open = λ clean ready told. raises.is_open clean (λ is_disk. told (alike.0 is_disk));
+    ready = λ told. now ∙ still_ready _ failed old.ready tells answers (λ is_disk. told (alike.0 is_disk));
+    disk = λ told. now ∙ ap not (tells.1 (alike.1 told));
+    finds = raises.raises.survives;
   }

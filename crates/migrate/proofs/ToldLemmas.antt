@@ -3,15 +3,13 @@ use Rattle.std.proofs.Common.{◌≡◌, ◌≤◌, ℕ, ℤ, pos, ◌<ℤ◌, R
 use Rattle.std.proofs.lemmas.Int.{ints}
 use Rattle.rows.specs.declared.all_rows.AllRows.{AllRows}
 use Rattle.sqlite.specs.Effect.{Database}
-use Rattle.records.specs.declared.unavailable.Unavailable.{Unavailable}
 use Rattle.openings.specs.Damage.{HasFirstDamage, IfOpeningDamaged, NamesVersion}
 use Rattle.openings.specs.NameLaws.{good_names}
 use Rattle.openings.specs.Told.{NamesVersionOf, Warrants}
 use Rattle.openings.specs.Whole.{AreAllRows}
 use Rattle.openings.specs.declared.opening.OpenFault.{OpenFault}
 use Rattle.openings.specs.declared.opening.OpenFault.TheVariants as fault
-use Rattle.migrate.specs.Naming.{names_other}
-use Rattle.migrate.specs.Told.{LacksOlder, TellsAny, TellsOfRows, TellsOlder}
+use Rattle.migrate.specs.Told.{TellsAny, TellsOfRows, TellsOlder}
 use Rattle.migrate.specs.Upgrading.{older_schema}
 
 -- where each of two facts is had of the fault that is told, a third is
@@ -19,23 +17,6 @@ pub both_err : {T E : Type 0} (r : Result T E) (P Q R : E → Type 0) → ((e : 
     → IfErr r P → IfErr r Q → IfErr r R
 both_err (Ok done) P Q R more p q = tt
 both_err (Err e) P Q R more p q = more e p q
-
--- by the tables
-pub told_lacks : (version : ℕ) (told : OpenFault) (db : Database)
-    → LacksOlder told (db.schema ≡ older_schema version) (names_other (older_schema version) db.schema)
-    → TellsOlder version told db
-told_lacks version fault.InUse db lacks = absurd lacks
-told_lacks version fault.Unreadable db lacks = lacks
-told_lacks version fault.NotALedger db lacks = inl lacks
-told_lacks version fault.OldSchema db lacks = absurd lacks
-told_lacks version fault.NewerSchema db lacks = absurd lacks
-told_lacks version (fault.Damaged damage) db lacks = absurd lacks
-told_lacks version (fault.Unavailable why) db lacks = absurd lacks
-
--- a call that was in want of something is told as that
-pub told_by_want : {T : Type 0} (version : ℕ) (r : Result T OpenFault) (why : Unavailable) (db : Database)
-    → r ≡ Err (fault.Unavailable why) → IfErr r (λ told. TellsOlder version told db)
-told_by_want version r why db is = rw is tt
 
 -- by the rows that were read
 pub told_rows : (version : ℕ) (told : OpenFault) (db : Database) (rows : AllRows)

@@ -1,16 +1,15 @@
 -- What an upgrade makes of a database.
-use Rattle.std.proofs.Common.{◌≡◌, ◌<◌, ◌≤◌, ℕ, ℤ, List, [], map, filter, sym, ap, subst, ◌∙◌, arith}
+use Rattle.std.proofs.Common.{◌≡◌, ◌<◌, ◌≤◌, ℕ, ℤ, [], map, filter, Ok, sym, ap, subst, ◌∙◌, arith}
 use Rattle.std.specs.List.{AllByRecursion}
 use Rattle.std.specs.Ordering.{nat_cmp}
-use Rattle.sqlite_value.specs.Order.{Row, column}
+use Rattle.sqlite_value.specs.Order.{column}
 use Rattle.sqlite_keyed.specs.Lists.{sort_by}
 use Rattle.sqlite_schema.specs.declared.schema.Schema.{Schema}
 use Rattle.sqlite_schema.specs.declared.schema.Table.{Table}
 use Rattle.sqlite_trees.specs.Tree.{Trees}
 use Rattle.sqlite.specs.Effect.{Database}
-use Rattle.sqlite.specs.State.{State, HasCleanDisk, Survives}
+use Rattle.sqlite.specs.State.{State, Survives}
 use Rattle.sqlite.proofs.StateLemmas.{survives_then}
-use Rattle.ledger_sql.specs.Frames.{Follows}
 use Rattle.ledger_sql.specs.Rowids.{IsNumbered}
 use Rattle.ledger_sql.specs.Schema.{list_schema, balance_schema}
 use Rattle.ledger_sql.specs.Stages.{HasBegun}
@@ -20,7 +19,7 @@ use Rattle.stored_ledgers.specs.DueSets.{DueSets}
 use Rattle.openings.specs.Found.{HasOrderedTables}
 use Rattle.migrate.specs.Filling.{IsAltering, HasOneVersion, KeepsEntries, MakesDerived, MakesVersion}
 use Rattle.migrate.specs.Upgrading.{KeepsMachines, IsUpgraded, IsLifted, Raised, IsOlder}
-use Rattle.migrate.specs.Raising.{HasBalanceTables, IsPrepared, IsSeen}
+use Rattle.migrate.specs.Raising.{HasBalanceTables, IsPrepared, IsSeen, Prepares}
 use Rattle.migrate.specs.FillingLaws.{entries_then}
 
 -- where the entries stay, each machine stays but for failed ids
@@ -86,15 +85,12 @@ balances_one s older = record {
   numbered = (subst (λ (schema : Schema). AllByRecursion (λ (t : Table). IsNumbered (s.now.trees t.tree)) schema.tables) older.rests.schema_is older.ordered).0;
 }
 
-same_numbered : (old new : List Row) → new ≡ old → IsNumbered old → IsNumbered new
-same_numbered old new same n = subst IsNumbered (sym same) n
-
 -- with the tables that were made, its rowids still rise
 pub derived_ordered : (a b c : State) → IsOlder list_schema a → b.now ≡ a.now → MakesDerived b c → HasOrderedTables c.now
 derived_ordered a b c older begun made =
     let was = subst (λ (schema : Schema). AllByRecursion (λ (t : Table). IsNumbered (a.now.trees t.tree)) schema.tables) older.rests.schema_is older.ordered in
     let at : (tree : ℕ) → c.now.trees tree ≡ b.now.trees tree → IsNumbered (a.now.trees tree) → IsNumbered (c.now.trees tree) =
-    λ tree same n. same_numbered (a.now.trees tree) (c.now.trees tree) (same ∙ ap (λ (d : Database). d.trees tree) begun) n in
+    λ tree same. subst IsNumbered (sym (same ∙ ap (λ (d : Database). d.trees tree) begun)) in
     subst (λ (schema : Schema). AllByRecursion (λ (t : Table). IsNumbered (c.now.trees t.tree)) schema.tables) (sym made.schema) (
       at 0 made.version was.0,
       (
@@ -169,12 +165,12 @@ module _ (to : ℕ) (sets : DueSets) (s0 s1 s2 s3 : State) (has : HasBalanceTabl
   }
 
 -- nothing but the commit may leave anything new
-pub survives_raise : (to : ℕ) (sets : DueSets) (s0 s4 s5 : State) → Follows s0 s4 → (HasCleanDisk s4 → IsPrepared to sets s0 s4)
+pub survives_raise : {E : Type 0} {to : ℕ} {sets : DueSets} {s0 s4 s5 : State} → Prepares {E = E} to s0 s4 (Ok sets)
     → Survives s4 s5 (λ db. db ≡ s4.now.trees) → Survives s0 s5 (Raised to s0.now)
-survives_raise to sets s0 s4 s5 before prepared commits =
+survives_raise {E} {to} {sets} {s0} {s4} {s5} prepares commits =
     survives_then s0 s4 s5 _ _ _ (λ _ db none. absurd none)
     (λ clean db is.
-    let made = prepared (omega (arith, commits.clean, clean)) in
+    let made = prepares.prepared (omega (arith, commits.clean, clean)) in
     record {
       current = λ three. record {
         sets = sets;
@@ -183,4 +179,4 @@ survives_raise to sets s0 s4 s5 before prepared commits =
       lifted = λ less.
           let lifted = made.raised.lifted less in
           subst (IsLifted s0.now) (λ i. record { schema = lifted.ledger.schema i; trees = sym is i }) lifted;
-    }) before.survives commits
+    }) prepares.follows.survives commits

@@ -9,7 +9,9 @@ use ledger_sql::setting::set_version;
 use ledger_sql::upgrading::{fill_balance, fill_history, fill_status, set_balance_version};
 use openings::versions::CURRENT_VERSION;
 use records::Unavailable;
-use rows::{AllRows, BalanceCells, DirectoryRow, HistoryCells, StatusCells, TenantOfDigest};
+use rows::{
+    AllRows, BalanceCells, DirectoryRow, HistoryCells, StatusCells, TenantOfDigest, TenantRows,
+};
 use sqlite::{Alter, Connection};
 
 /// Makes the tables of balances, states and history, and puts these rows into them.
@@ -33,8 +35,8 @@ fn fill_all<S: Alter>(
     requires { IfClean (IsAltering balance_schema) S.Store conn.old }
     ensures { Changes FillsDerived S.Store conn.old conn.new result }
 {
-    for (place, row) in directory.iter().enumerate() {
-        fill_tenant(conn, row.number, tenants.get(place))?;
+    for (row, tenant) in directory.iter().zip(tenants) {
+        fill_tenant(conn, row.number, &tenant.rows)?;
     }
     Ok(())
 }
@@ -42,17 +44,14 @@ fn fill_all<S: Alter>(
 fn fill_tenant<S: Alter>(
     conn: &mut Connection<S>,
     number: i64,
-    tenant: Option<&TenantOfDigest>,
+    rows: &TenantRows,
 ) -> Result<(), Unavailable>
     requires { IfClean (IsAltering balance_schema) S.Store conn.old }
     ensures { Changes FillsDerived S.Store conn.old conn.new result }
 {
-    let Some(tenant) = tenant else {
-        return Ok(());
-    };
-    fill_rows(conn, number, tenant.rows.balances.as_slice())?;
-    fill_rows(conn, number, tenant.rows.statuses.as_slice())?;
-    fill_rows(conn, number, tenant.rows.history.as_slice())
+    fill_rows(conn, number, rows.balances.as_slice())?;
+    fill_rows(conn, number, rows.statuses.as_slice())?;
+    fill_rows(conn, number, rows.history.as_slice())
 }
 
 /// A tenant's rows of one kind.

@@ -7,10 +7,9 @@ ghost use Rattle.migrate.specs.Older.{CanBeRaised};
 ghost use Rattle.migrate.specs.Migrating.{IsBelow, LeavesAudited, MigratesLedger, RaisesLedger, RefusesNewer};
 ghost use Rattle.migrate.specs.Raising.{RaisesOrTells};
 
-use crate::raising::raise;
+use crate::raising::Upgrade;
 use crate::{LedgerOfVersion, MigrateFault, rows_in_version};
 use audit::check;
-use openings::auditing::FullAudit;
 use openings::whole_rows::rows_in;
 use records::Unavailable;
 use rows::AllRows;
@@ -86,7 +85,12 @@ fn raise_rows<S: Alter>(
         (state S.Store conn.old) (state S.Store conn.new) result }
 {
     let newer = newer_rows(alloc, conn, version, to)?;
-    let due = raise(alloc, conn, version, &newer, &FullAudit)?;
+    let upgrade = Upgrade {
+        alloc,
+        version,
+        rows: &newer,
+    };
+    let due = upgrade.raise(conn)?;
     Ok(due)
 }
 

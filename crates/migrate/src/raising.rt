@@ -16,7 +16,7 @@ ghost use Rattle.migrate.specs.Upgrading.{IsOlder, older_schema};
 use crate::filling::{make_derived, make_version};
 use crate::older::examine_older;
 use ledger_sql::stages::{abandon, begin, commit};
-use openings::auditing::Audit;
+use openings::auditing::FullAudit;
 use openings::opened::examine;
 use openings::opening::OpenFault;
 use openings::versions::CURRENT_VERSION;
@@ -31,111 +31,91 @@ use stored_ledgers::probe::judged;
 /// The version in which the tables of balances came.
 const BALANCE_VERSION: u32 = 2;
 
-/// Brings a ledger of an older version to the version of these rows, which are all tenants' in that
-/// version. After a fault nothing has changed.
-pub(crate) fn raise<S: Alter, A: Audit>(
-    alloc: Global,
-    conn: &mut Connection<S>,
-    version: u32,
-    rows: &AllRows,
-    audit: &A,
-) -> Result<DueSets, OpenFault>
-    requires { IfClean (IsOlder (older_schema version)) S.Store conn.old }
-    ensures { RaisesOrTells (OpenFault.Unavailable DiskFailed) rows.now.version
-        (state S.Store conn.old) (state S.Store conn.new) result }
-{
-    match raise_whole(alloc, conn, version, rows, audit) {
-        Ok(due) => Ok(due),
-        Err(fault) => Err(judged_fault(conn, fault)),
+/// An upgrade of a ledger of an older version to the version of these rows, which are all tenants'
+/// in that version.
+#[derive(Drop)]
+pub(crate) struct Upgrade<'a> {
+    pub(crate) alloc: Global,
+    /// The version that the ledger has.
+    pub(crate) version: u32,
+    pub(crate) rows: &'a AllRows,
+}
+
+impl Upgrade<'_> {
+    /// Brings the ledger to the newer version. After a fault nothing has changed.
+    pub(crate) fn raise<S: Alter>(&self, conn: &mut Connection<S>) -> Result<DueSets, OpenFault>
+        requires { IfClean (IsOlder (older_schema self.now.version)) S.Store conn.old }
+        ensures { RaisesOrTells (OpenFault.Unavailable DiskFailed) self.now.rows.now.version
+            (state S.Store conn.old) (state S.Store conn.new) result }
+    {
+        match self.raise_whole(conn) {
+            Ok(due) => Ok(due),
+            Err(fault) => Err(judged_fault(conn, fault)),
+        }
     }
-}
 
-/// The same, where a failure may have shut the database unnoticed.
-fn raise_whole<S: Alter, A: Audit>(
-    alloc: Global,
-    conn: &mut Connection<S>,
-    version: u32,
-    rows: &AllRows,
-    audit: &A,
-) -> Result<DueSets, OpenFault>
-    requires { IfClean (IsOlder (older_schema version)) S.Store conn.old }
-    ensures { RaisesWhole rows.now.version
-        (state S.Store conn.old) (state S.Store conn.new) result }
-{
-    let raised = write(alloc, conn, version, rows, audit);
-    if raised.is_err() {
-        abandon(conn);
+    /// The same, where a failure may have shut the database unnoticed.
+    fn raise_whole<S: Alter>(&self, conn: &mut Connection<S>) -> Result<DueSets, OpenFault>
+        requires { IfClean (IsOlder (older_schema self.now.version)) S.Store conn.old }
+        ensures { RaisesWhole self.now.rows.now.version
+            (state S.Store conn.old) (state S.Store conn.new) result }
+    {
+        let raised = self.write(conn);
+        if raised.is_err() {
+            abandon(conn);
+        }
+        raised
     }
-    raised
-}
 
-/// The same, where a failure may leave the transaction open.
-fn write<S: Alter, A: Audit>(
-    alloc: Global,
-    conn: &mut Connection<S>,
-    version: u32,
-    rows: &AllRows,
-    audit: &A,
-) -> Result<DueSets, OpenFault>
-    requires { IfClean (IsOlder (older_schema version)) S.Store conn.old }
-    ensures { RaisesOrBegins rows.now.version
-        (state S.Store conn.old) (state S.Store conn.new) result }
-{
-    let due = prepare(alloc, conn, version, rows, audit)?;
-    commit(conn)?;
-    Ok(due)
-}
-
-/// All of it but the commit.
-fn prepare<S: Alter, A: Audit>(
-    alloc: Global,
-    conn: &mut Connection<S>,
-    version: u32,
-    rows: &AllRows,
-    audit: &A,
-) -> Result<DueSets, OpenFault>
-    requires { IfClean (IsOlder (older_schema version)) S.Store conn.old }
-    ensures { Prepares rows.now.version
-        (state S.Store conn.old) (state S.Store conn.new) result }
-{
-    begin_balanced(conn, version, rows)?;
-    make_version(conn, rows.version)?;
-    let due = look_at(alloc, conn, rows.version, audit)?;
-    Ok(due)
-}
-
-/// Begins the transaction, and makes the tables of balances and fills them unless they are there.
-fn begin_balanced<S: Alter>(
-    conn: &mut Connection<S>,
-    version: u32,
-    rows: &AllRows,
-) -> Result<(), Unavailable>
-    requires { IfClean (IsOlder (older_schema version)) S.Store conn.old }
-    ensures { Changes HasBalanceTables S.Store conn.old conn.new result }
-{
-    begin(conn)?;
-    if version == 1 {
-        make_derived(conn, rows)?;
-        return Ok(());
+    /// The same, where a failure may leave the transaction open.
+    fn write<S: Alter>(&self, conn: &mut Connection<S>) -> Result<DueSets, OpenFault>
+        requires { IfClean (IsOlder (older_schema self.now.version)) S.Store conn.old }
+        ensures { RaisesOrBegins self.now.rows.now.version
+            (state S.Store conn.old) (state S.Store conn.new) result }
+    {
+        let due = self.prepare(conn)?;
+        commit(conn)?;
+        Ok(due)
     }
-    Ok(())
-}
 
-/// Looks at a ledger of this version, as an opening does.
-fn look_at<S: Alter, A: Audit>(
-    alloc: Global,
-    conn: &mut Connection<S>,
-    version: u32,
-    audit: &A,
-) -> Result<DueSets, OpenFault>
-    ensures { Sees (λ db sets. IsSeen version sets db) S.Store conn.old conn.new result }
-{
-    if version < CURRENT_VERSION {
-        examine_older(alloc, conn, BALANCE_VERSION, audit)?;
-        return Ok(BTreeMap::new(alloc));
+    /// All of it but the commit.
+    fn prepare<S: Alter>(&self, conn: &mut Connection<S>) -> Result<DueSets, OpenFault>
+        requires { IfClean (IsOlder (older_schema self.now.version)) S.Store conn.old }
+        ensures { Prepares self.now.rows.now.version
+            (state S.Store conn.old) (state S.Store conn.new) result }
+    {
+        self.begin_balanced(conn)?;
+        make_version(conn, self.rows.version)?;
+        let due = self.look(conn)?;
+        Ok(due)
     }
-    let due = examine(alloc, conn, audit)?;
-    Ok(due)
+
+    /// Begins the transaction, and makes the tables of balances and fills them unless they are
+    /// there.
+    fn begin_balanced<S: Alter>(&self, conn: &mut Connection<S>) -> Result<(), Unavailable>
+        requires { IfClean (IsOlder (older_schema self.now.version)) S.Store conn.old }
+        ensures { Changes HasBalanceTables S.Store conn.old conn.new result }
+    {
+        begin(conn)?;
+        if self.version == 1 {
+            make_derived(conn, self.rows)?;
+            return Ok(());
+        }
+        Ok(())
+    }
+
+    /// Looks at the newer ledger, as an opening does.
+    fn look<S: Alter>(&self, conn: &mut Connection<S>) -> Result<DueSets, OpenFault>
+        ensures { Sees (λ db sets. IsSeen self.now.rows.now.version sets db)
+            S.Store conn.old conn.new result }
+    {
+        if self.rows.version < CURRENT_VERSION {
+            examine_older(self.alloc, conn, BALANCE_VERSION, &FullAudit)?;
+            return Ok(BTreeMap::new(self.alloc));
+        }
+        let due = examine(self.alloc, conn, &FullAudit)?;
+        Ok(due)
+    }
 }
 
 /// Why it failed, where the database is still open; else a fault of the disk.

@@ -1,12 +1,12 @@
 -- Sets that keep what is due, made tenant by tenant.
-use Rattle.std.proofs.Common.{◌≡◌, ◌⊎◌, inl, inr, All, ℕ, ◌+◌, ◌<◌, ℤ, false, Some, List, [], ◌∷◌, zero, suc, length, get_or, sym, ap, ◌∙◌, arith}
+use Rattle.std.proofs.Common.{◌≡◌, ◌⊎◌, inl, inr, All, ℕ, ◌+◌, ◌<◌, ℤ, false, Some, List, [], ◌∷◌, zero, suc, length, min, get_or, sym, ap, ◌∙◌, arith}
 use Rattle.std.specs.BTreeMap.{get}
 use Rattle.std.specs.Ordering.{int_cmp, is_eq}
 use Rattle.std.specs.Prelude.{slice_get}
 use Rattle.rows.specs.declared.all_rows.DirectoryRow.{DirectoryRow}
 use Rattle.rows.specs.declared.all_rows.TenantOfDigest.{TenantOfDigest}
 use Rattle.stored_ledgers.specs.DueSets.{DueSet, DueSets}
-use Rattle.openings.specs.Opened.{CoversCells, IsKeptIn}
+use Rattle.openings.specs.Opened.{AreKept, CoversCells, IsKeptIn}
 use Rattle.stored_ledgers.specs.DueSetLaws.{same_number, other_key}
 
 -- the first rows of the directory have sets that cover their tenants' rows
@@ -67,21 +67,17 @@ kept_more many sets sets' directory tenants row tenant set row_is tenant_is cove
     last_or_before : (place many : ℕ) → place < many + 1 → (place ≡ many) ⊎ (place < many)
     last_or_before place many below = grind arith
 
--- nor is there a set to be made where the directory has more rows than there are tenants
-pub kept_none : (many : ℕ) (sets : DueSets) (directory : List DirectoryRow) (tenants : List TenantOfDigest)
-    → ((tenant : TenantOfDigest) → slice_get tenants many ≡ Some tenant → ⊥)
-    → AreKeptTo many sets directory tenants → AreKeptTo (many + 1) sets directory tenants
-kept_none many sets directory tenants none before place row tenant below row_is tenant_is =
-    elim (last_or_before place many below) [
-      | inl last ↦ absurd (none tenant (ap (slice_get tenants) (sym last) ∙ tenant_is))
-      | inr earlier ↦ before place row tenant earlier row_is tenant_is
-    ]
-  where
-    last_or_before : (place many : ℕ) → place < many + 1 → (place ≡ many) ⊎ (place < many)
-    last_or_before place many below = grind arith
-
 -- a place that has an element is below the length
-pub within : {X : Type 0} (xs : List X) (k : ℕ) (x : X) → slice_get xs k ≡ Some x → k < length xs
+within : {X : Type 0} (xs : List X) (k : ℕ) (x : X) → slice_get xs k ≡ Some x → k < length xs
 within [] k x is = absurd (cc)
 within (y ∷ xs) zero x is = omega arith
 within (y ∷ xs) (suc k) x is = let rest = within xs k x is in omega arith
+
+-- so it is of all, once one of the lists has no more
+pub kept_all : (many : ℕ) (sets : DueSets) (directory : List DirectoryRow) (tenants : List TenantOfDigest)
+    → many ≡ min (length directory) (length tenants) → AreKeptTo many sets directory tenants
+    → AreKept sets directory tenants
+kept_all many sets directory tenants long kept place row tenant row_is tenant_is =
+    let first = within directory place row row_is in
+    let second = within tenants place tenant tenant_is in
+    kept place row tenant (omega (arith, long, first, second)) row_is tenant_is

@@ -1,13 +1,10 @@
 -- What an opening has looked at.
-use Rattle.std.proofs.Common.{◌≡◌, ℕ, ℤ, pos, ◌+◌, ◌<◌, All, IsTrue, List, [], ◌∷◌, ◌++◌, map, take, drop, length, get_or, Result, Ok, Err, IfOk, inl, inr, sym, ap, subst, ◌∙◌, arith}
+use Rattle.std.proofs.Common.{◌≡◌, ℕ, ℤ, pos, ◌+◌, ◌<◌, All, IsTrue, List, [], ◌∷◌, map, take, length, get_or, Result, Ok, Err, IfOk, inl, inr, sym, ap, subst, ◌∙◌, arith}
 use Rattle.std.specs.BTreeSet.{contains}
 use Rattle.std.specs.List.Sorted.{IsPermutation}
 use Rattle.std.proofs.lemmas.List.Elements.{All-more, All-weaker}
 use Rattle.rows.specs.declared.status_cells.StatusCells.{StatusCells}
-use Rattle.sqlite_schema.specs.declared.schema.Schema.{Schema}
 use Rattle.sqlite_value.specs.Order.{Row}
-use Rattle.ledger_sql.specs.Effects.{StartsAs, IsLedger}
-use Rattle.ledger_sql.specs.Schema.{after_schema, ledger_schema}
 use Rattle.ledger_sql.specs.Values.{version_values}
 use Rattle.stored_ledgers.specs.DueSets.{DueSet, due_cmp}
 use Rattle.openings.proofs.HeldMachines.{only_one}
@@ -47,10 +44,6 @@ named_version (Ok version) rows versions items all same is =
     only_one rows (version_values (pos version))
     (subst (λ xs. IsPermutation rows (map version_values xs)) (sym same ∙ is) all)
 named_version (Err fault) rows versions items all same is = is
-
--- the table of the version comes first in a ledger
-pub starts_with_version : (schema : Schema) → IsLedger schema → StartsAs after_schema.tables schema
-starts_with_version schema ledger = (drop 1 ledger_schema.tables ++ ledger.more, ledger.tables)
 
 module _ (image : Image) (old new : State) where
   -- a database that was opened and only read since

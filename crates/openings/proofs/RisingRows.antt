@@ -6,7 +6,7 @@ use Rattle.std.proofs.lemmas.Bool.{cases_Bool}
 use Rattle.std.proofs.lemmas.Bool.Decides.{Decides-int_eq}
 use Rattle.std.proofs.lemmas.Cmp.{tied_itself, tied_back}
 use Rattle.sqlite_value.specs.declared.value.Value.{Value}
-use Rattle.sqlite_value.specs.declared.value.Value.TheVariants.{Null, Int, Real, Text, Blob}
+use Rattle.sqlite_value.specs.declared.value.Value.TheVariants.{Null, Int, Real}
 use Rattle.sqlite_value.specs.declared.keys.Collation.TheVariants.{Binary}
 use Rattle.sqlite_value.specs.Order.{Row, column, value_cmp}
 use Rattle.sqlite_value.specs.Keys.{plain, first_key}
@@ -64,13 +64,11 @@ equal_is Greater is = absurd (cc)
 
 -- a value that equals a whole number
 pub int_tied : (number : ℤ) (v : Value) → is_int number v ≡ true → value_cmp v (Int number) ≡ Equal
-int_tied number Null is = absurd (cc)
 int_tied number (Int m) is =
     subst (λ n. value_cmp (Int m) (Int n) ≡ Equal) ((Decides-int_eq m number).0 is)
     (tied_itself value_cmp_total (Int m))
 int_tied number (Real x) is = equal_is _ is
-int_tied number (Text t) is = absurd (cc)
-int_tied number (Blob b) is = absurd (cc)
+int_tied number v is = absurd (cc)
 
 -- two values that equal a third
 pub tied_apart : (a b c : Value) → value_cmp a b ≡ Less → value_cmp a c ≡ Equal → value_cmp b c ≡ Equal → ⊥
@@ -100,16 +98,13 @@ equal_tied a b is = go (is_null a || is_null b) (value_cmp a b) refl is
     go false Equal same is = same
     go false Greater same is = absurd (cc)
 
--- and values of which neither is NULL are equal where they are so in that order
-pub tied_equal : (a b : Value) → is_null a ≡ false → is_null b ≡ false → value_cmp a b ≡ Equal
-    → equal Binary a b ≡ true
+-- and a value that is not NULL equals itself
+equal_itself : (a : Value) → is_null a ≡ false → equal Binary a a ≡ true
 unfolding binary
-tied_equal a b some_a some_b tied =
-    subst (λ none. unwrap_or (truth (cond (none || is_null b) Null (from_truth (Some (is_eq (value_cmp a b)))))) false ≡ true)
-    (sym some_a)
-    (subst (λ none. unwrap_or (truth (cond (false || none) Null (from_truth (Some (is_eq (value_cmp a b)))))) false ≡ true)
-    (sym some_b)
-    (subst (λ o. unwrap_or (truth (from_truth (Some (is_eq o)))) false ≡ true) (sym tied) refl))
+equal_itself a some =
+    subst (λ none. unwrap_or (truth (cond (none || none) Null (from_truth (Some (is_eq (value_cmp a a)))))) false ≡ true)
+    (sym some)
+    (subst (λ o. unwrap_or (truth (from_truth (Some (is_eq o)))) false ≡ true) (sym (tied_itself value_cmp_total a)) refl)
 
 -- rowids that rise differ
 pub rising_differ : (a b : Value) → IsTrue (is_whole a) → IsTrue (is_whole b) → value_cmp a b ≡ Less
@@ -117,29 +112,23 @@ pub rising_differ : (a b : Value) → IsTrue (is_whole a) → IsTrue (is_whole b
 unfolding binary
 rising_differ (Int m) (Int n) whole_a whole_b below =
     subst (λ o. unwrap_or (truth (from_truth (Some (is_ne o)))) false ≡ true) (sym below) refl
-rising_differ (Int m) Null whole_a whole_b below = absurd (cc)
-rising_differ (Int m) (Real y) whole_a whole_b below = absurd (cc)
-rising_differ (Int m) (Text t) whole_a whole_b below = absurd (cc)
-rising_differ (Int m) (Blob t) whole_a whole_b below = absurd (cc)
-rising_differ Null b whole_a whole_b below = absurd (cc)
-rising_differ (Real x) b whole_a whole_b below = absurd (cc)
-rising_differ (Text t) b whole_a whole_b below = absurd (cc)
-rising_differ (Blob t) b whole_a whole_b below = absurd (cc)
+rising_differ a b whole_a whole_b below = absurd (cc)
 
--- at most one row has a key that no two rows share
-pub few_keyed : (p : Value → Bool) (place : ℕ) (rows : List Row)
-    → ((v w : Value) → p v ≡ true → p w ≡ true → equal Binary v w ≡ true) → IsNumbered rows
+-- at most one row has this key, which no two rows share
+pub few_keyed : (p : Value → Bool) (key : Value) → is_null key ≡ false → ((v : Value) → p v ≡ true → v ≡ key)
+    → (place : ℕ) (rows : List Row) → IsNumbered rows
     → ((row : Row) → Has rows row → clashes plain (place ∷ []) rows row ≡ false)
     → length (filter (λ row. p (column row place)) rows) ≤ 1
 unfolding first_key
-few_keyed p place rows same numbered apart =
+few_keyed p key some is_key place rows numbered apart =
     few_pass (λ row. p (column row place)) rows
     (ascending_has (λ a b. value_cmp (rowid a) (rowid b) ≡ Less)
     (λ a b. p (column a place) ≡ true → p (column b place) ≡ true → ⊥) rows
     (λ a b here there below is_a is_b. absurd (
     let whole_a = all_has (λ r. IsTrue (is_whole (rowid r))) rows a numbered.whole here in
     let whole_b = all_has (λ r. IsTrue (is_whole (rowid r))) rows b numbered.whole there in
-    let alike : equal Binary (column a place) (column b place) ≡ true = same _ _ is_a is_b in
+    let alike : equal Binary (column a place) (column b place) ≡ true =
+    rw (is_key _ is_a, is_key _ is_b) (equal_itself key some) in
     let differs = rising_differ (rowid a) (rowid b) whole_a whole_b below in
     let both : (agree plain (place ∷ []) a (place ∷ []) b && differ (rowid a) (rowid b)) ≡ true
     = both_true _ _ alike differs in
@@ -148,6 +137,4 @@ few_keyed p place rows same numbered apart =
     let never = apart b there in cc)) numbered.rise)
   where
     both_true : (x y : Bool) → x ≡ true → y ≡ true → ((x && true) && y) ≡ true
-    both_true true true e f = refl
-    both_true true false e f = f
-    both_true false y e f = e
+    both_true x y e f = rw (e, f) refl

@@ -4,11 +4,10 @@ use Rattle.std.specs.List.{AllByRecursion}
 use Rattle.std.specs.Prelude.{slice_get, slice_index_or}
 use Rattle.std.proofs.lemmas.Bool.{cases_Bool, and_parts, or_cases}
 use Rattle.std.proofs.lemmas.Bool.Decides.{Decides-int_eq}
-use Rattle.std.proofs.lemmas.Cmp.{tied_itself}
 use Rattle.std.proofs.lemmas.Map.Lookups.{exact_signed}
 use Rattle.std.proofs.lemmas.Slice.Eq.{bytes_eq-Decides}
 use Rattle.sqlite_value.specs.declared.value.Value.{Value}
-use Rattle.sqlite_value.specs.declared.value.Value.TheVariants.{Null, Int, Real, Text, Blob}
+use Rattle.sqlite_value.specs.declared.value.Value.TheVariants.{Null, Int, Text, Blob}
 use Rattle.sqlite_value.specs.declared.keys.Collation.TheVariants.{Binary}
 use Rattle.sqlite_value.specs.Order.{Row, column, value_cmp}
 use Rattle.sqlite_value.specs.Keys.{plain, first_key, joined}
@@ -32,56 +31,28 @@ use Rattle.ledger_sql.specs.TableRows.{is_int, is_text, is_blob, cells_from}
 use Rattle.stored_tables.specs.Frames.{AreNumbered}
 use Rattle.stored_ledgers.specs.Directory.{with_number, AreDistinct}
 use Rattle.stored_ledgers.specs.Ledger.{HasNoRows}
-use Rattle.openings.proofs.RisingRows.{few_mapped, few_numbered, few_keyed, int_tied, equal_tied, tied_equal}
+use Rattle.openings.proofs.RisingRows.{few_mapped, few_numbered, few_keyed, int_tied, equal_tied}
 
--- a value that is this text, or these bytes, equals another that is
-texts_equal : (text : List ℕ) (v w : Value) → is_text text v ≡ true → is_text text w ≡ true
-    → equal Binary v w ≡ true
-texts_equal text (Text a) (Text b) is_a is_b =
-    let same = (bytes_eq-Decides a text).0 is_a ∙ sym ((bytes_eq-Decides b text).0 is_b) in
-    tied_equal (Text a) (Text b) refl refl
-    (subst (λ t. value_cmp (Text a) (Text t) ≡ Equal) same (tied_itself value_cmp_total (Text a)))
-texts_equal text (Text a) Null is_a is_b = absurd (cc)
-texts_equal text (Text a) (Int n) is_a is_b = absurd (cc)
-texts_equal text (Text a) (Real x) is_a is_b = absurd (cc)
-texts_equal text (Text a) (Blob b) is_a is_b = absurd (cc)
-texts_equal text Null w is_a is_b = absurd (cc)
-texts_equal text (Int n) w is_a is_b = absurd (cc)
-texts_equal text (Real x) w is_a is_b = absurd (cc)
-texts_equal text (Blob b) w is_a is_b = absurd (cc)
+-- a value that is this text, or these bytes, is one value
+only_text : (text : List ℕ) (v : Value) → is_text text v ≡ true → v ≡ Text text
+only_text text (Text t) is = ap Text ((bytes_eq-Decides t text).0 is)
+only_text text v is = absurd (cc)
 
-blobs_equal : (bytes : List ℕ) (v w : Value) → is_blob bytes v ≡ true → is_blob bytes w ≡ true
-    → equal Binary v w ≡ true
-blobs_equal bytes (Blob a) (Blob b) is_a is_b =
-    let same = (bytes_eq-Decides a bytes).0 is_a ∙ sym ((bytes_eq-Decides b bytes).0 is_b) in
-    tied_equal (Blob a) (Blob b) refl refl
-    (subst (λ t. value_cmp (Blob a) (Blob t) ≡ Equal) same (tied_itself value_cmp_total (Blob a)))
-blobs_equal bytes (Blob a) Null is_a is_b = absurd (cc)
-blobs_equal bytes (Blob a) (Int n) is_a is_b = absurd (cc)
-blobs_equal bytes (Blob a) (Real x) is_a is_b = absurd (cc)
-blobs_equal bytes (Blob a) (Text b) is_a is_b = absurd (cc)
-blobs_equal bytes Null w is_a is_b = absurd (cc)
-blobs_equal bytes (Int n) w is_a is_b = absurd (cc)
-blobs_equal bytes (Real x) w is_a is_b = absurd (cc)
-blobs_equal bytes (Text b) w is_a is_b = absurd (cc)
+only_blob : (bytes : List ℕ) (v : Value) → is_blob bytes v ≡ true → v ≡ Blob bytes
+only_blob bytes (Blob b) is = ap Blob ((bytes_eq-Decides b bytes).0 is)
+only_blob bytes v is = absurd (cc)
 
 -- a value that equals a whole number is not NULL
 null_apart : (number : ℤ) (v : Value) → is_int number v ≡ true → (is_null v || false) ≡ true → ⊥
 null_apart number Null is none = absurd (cc)
-null_apart number (Int n) is none = absurd (cc)
-null_apart number (Real x) is none = absurd (cc)
-null_apart number (Text t) is none = absurd (cc)
-null_apart number (Blob b) is none = absurd (cc)
+null_apart number v is none = absurd (cc)
 
 -- a whole number that equals this one
 whole_is : (number : ℤ) (v : Value) → IsTrue (is_whole v) → value_cmp v (Int number) ≡ Equal
     → is_int number v ≡ true
 whole_is number (Int m) whole tied =
     (Decides-int_eq m number).1 (exact_signed m number (sym (value_cmp-Int m number) ∙ tied))
-whole_is number Null whole tied = absurd (cc)
-whole_is number (Real x) whole tied = absurd (cc)
-whole_is number (Text t) whole tied = absurd (cc)
-whole_is number (Blob b) whole tied = absurd (cc)
+whole_is number v whole tied = absurd (cc)
 
 nothing_made : (f : Row → Row) (rows : List Row) → map f rows ≡ [] → rows ≡ []
 nothing_made f [] none = refl
@@ -136,9 +107,9 @@ module _ (schema : Schema) (trees : Trees) (ledger : IsLedger schema) (sound : I
     numbers = λ number. few_mapped (λ row. is_int number (column row 0)) entry (trees tenant_tree)
         (few_numbered number (trees tenant_tree) numbered_directory.rise);
     names = λ name. few_mapped (λ row. is_text name (column row 1)) entry (trees tenant_tree)
-        (few_keyed (is_text name) 2 (trees tenant_tree) (texts_equal name) numbered_directory (apart 0 2 refl));
+        (few_keyed (is_text name) (Text name) refl (only_text name) 2 (trees tenant_tree) numbered_directory (apart 0 2 refl));
     digests = λ digest. few_mapped (λ row. is_blob digest (column row 2)) entry (trees tenant_tree)
-        (few_keyed (is_blob digest) 3 (trees tenant_tree) (blobs_equal digest) numbered_directory (apart 1 3 refl));
+        (few_keyed (is_blob digest) (Blob digest) refl (only_blob digest) 3 (trees tenant_tree) numbered_directory (apart 1 3 refl));
   }
 
   parent_is : (place : ℕ) → parent_key schema.tables (to_tenant place) ≡ key_of_directory

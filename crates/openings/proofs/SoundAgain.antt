@@ -1,5 +1,5 @@
 -- Rows that are sound in one reading are so in each.
-use Rattle.std.proofs.Common.{◌≡◌, ◌⊎◌, ◌+◌, ◌<◌, ◌≤◌, ℕ, Bool, false, true, is_lt, List, [], ◌∷◌, map, length, get_or, set, inl, inr, refl, sym, ap, subst, ◌∙◌, arith}
+use Rattle.std.proofs.Common.{◌≡◌, ◌+◌, ◌<◌, ◌≤◌, ℕ, Bool, false, true, is_lt, List, [], ◌∷◌, map, length, get_or, set, inl, inr, refl, sym, ap, subst, ◌∙◌, arith}
 use Rattle.std.specs.declared.cmp.Ordering.{Ordering}
 use Rattle.std.specs.List.{All, swap}
 use Rattle.std.specs.List.Sorted.{IsPermutation, IsSorted, IsSortedByKey}
@@ -8,7 +8,7 @@ use Rattle.std.proofs.Math.ListN.{get_or-map}
 use Rattle.std.proofs.lemmas.Bool.Decides.{leb_tells, nat_tests}
 use Rattle.std.proofs.lemmas.List.{length-map, map-set}
 use Rattle.std.proofs.lemmas.List.Elements.{All-get_or}
-use Rattle.std.proofs.lemmas.List.Sorted.{All-permutation, IsPermutation-keeps, IsPermutation-map, IsPermutation-refl, IsPermutation-swap, IsPermutation-sym, IsPermutation-trans}
+use Rattle.std.proofs.lemmas.List.Sorted.{All-permutation, IsPermutation-keeps, IsPermutation-refl, IsPermutation-swap, IsPermutation-sym, IsPermutation-trans}
 use Rattle.rows.specs.Tables.{IsAscendingBy}
 use Rattle.sqlite_value.specs.Order.{Row}
 use Rattle.ledger_sql.specs.Reading.{ReadsRows}
@@ -66,32 +66,40 @@ module _ {T C : Type 0} (cells : T → C) where
       not_less : (a b : ℕ) → (a < b → ⊥) → is_lt (nat_cmp a b) ≡ false
       not_less a b none = elim (leb_tells b a) [ inl le ↦ at_least a b le.1 | inr below ↦ absurd (none below.1) ]
 
-module _ {C : Type 0} (values : C → Row) (back : Row → C) (is : (c : C) → back (values c) ≡ c) where
-  map_back : (cs : List C) → map back (map values cs) ≡ cs
-  map_back [] = refl
-  map_back (c ∷ cs) = λ i. is c i ∷ map_back cs i
+module _ {C : Type 0} (values : C → Row) (one : (c d : C) → values c ≡ values d → c ≡ d) where
+  same_mapped : (cs ds : List C) → map values cs ≡ map values ds → cs ≡ ds
+  same_mapped [] [] same = refl
+  same_mapped [] (d ∷ ds) same = absurd (cc)
+  same_mapped (c ∷ cs) [] same = absurd (cc)
+  same_mapped (c ∷ cs) (d ∷ ds) same =
+      let first : c ≡ d = one c d (cc) in
+      let rest : cs ≡ ds = same_mapped cs ds (cc) in λ i. first i ∷ rest i
 
   -- two readings of one table have the same rows
-  pub read_twice : (table : List Row) (a b : List C) → IsPermutation table (map values a) → IsPermutation table (map values b)
-      → IsPermutation a b
-  read_twice table a b first second =
-      subst (λ (xs : List C). IsPermutation xs b) (map_back a)
-      (subst (λ (ys : List C). IsPermutation (map back (map values a)) ys) (map_back b)
-      (IsPermutation-map back (map values a) (map values b)
-      (IsPermutation-trans (map values a) table (map values b) (IsPermutation-sym table (map values a) first) second)))
+  pub read_again : {T : Type 0} (cells : T → C) (table : List Row) (ts : List T) (own : List C)
+      → IsPermutation table (map values (map cells ts)) → IsPermutation table (map values own) → Typed cells ts own
+  read_again cells table ts own first second =
+      let read = map cells ts in
+      let again = typed_again values read (map values own)
+      (IsPermutation-trans (map values read) table (map values own) (IsPermutation-sym table (map values read) first) second) in
+      typed_again cells ts own (subst (IsPermutation read) (same_mapped again.0 own again.2) again.1)
 
   module _ {T : Type 0} (cells : T → C) (cmp : C → C → Ordering) (key : T → ℕ) (Fits : T → Type 0)
       (less : (t u : T) → Fits t → Fits u → key t < key u → is_lt (cmp (cells t) (cells u)) ≡ true)
-      (once : OneOrder T) (table : List Row) (ts : List T) (fit : All Fits ts) (up : IsAscendingBy key ts) where
+      (once : OneOrder T) (table : List Row) (due ts : List T) (same : IsPermutation due ts) (fit : All Fits due)
+      (up : IsAscendingBy key ts) where
     -- and in order of key they are one list
     one_reading : (b : List C) → ReadsRows values cmp table (map cells ts) → ReadsRows values cmp table b → map cells ts ≡ b
     one_reading b first second =
-        let again = typed_again cells ts b (read_twice table (map cells ts) b first.all second.all) in
-        let sorted = sorted_key cells cmp key Fits less again.0 (All-permutation Fits ts again.0 again.1 fit)
+        let again = read_again cells table ts b first.all second.all in
+        let fits = All-permutation Fits due again.0 (IsPermutation-trans due ts again.0 same again.1) fit in
+        let sorted = sorted_key cells cmp key Fits less again.0 fits
         (subst (IsSorted cmp) (sym again.2) second.order) in
         ap (map cells) (once key ts again.0 up again.1 sorted) ∙ again.2
 
-    pub read_since : (first version : ℕ) (b : List C) → (first ≤ version) ⊎ (version < first)
-        → ReadsSince first version values cmp table (map cells ts) → ReadsSince first version values cmp table b → map cells ts ≡ b
-    read_since first version b (inl there) a_reads b_reads = one_reading b (a_reads.there there) (b_reads.there there)
-    read_since first version b (inr none) a_reads b_reads = a_reads.none none ∙ sym (b_reads.none none)
+    pub read_since : (first version : ℕ) (b : List C) → ReadsSince first version values cmp table (map cells ts)
+        → ReadsSince first version values cmp table b → map cells ts ≡ b
+    read_since first version b a_reads b_reads = elim (leb_tells first version) [
+      | inl there ↦ one_reading b (a_reads.there there.1) (b_reads.there there.1)
+      | inr none ↦ a_reads.none none.1 ∙ sym (b_reads.none none.1)
+    ]

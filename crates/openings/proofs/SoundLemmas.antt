@@ -1,16 +1,11 @@
 -- A sound tenant is sound in each reading, so that nothing in it is damaged.
-use Rattle.std.proofs.Common.{◌≡◌, ◌⊎◌, ◌^◌, ◌<◌, ◌≤◌, ℕ, ℤ, pos, All, List, [], ◌∷◌, map, true, is_lt, inl, inr, refl, sym, ap, subst, ◌∙◌, arith}
+use Rattle.std.proofs.Common.{◌≡◌, ◌^◌, ◌<◌, ℕ, ℤ, pos, All, List, [], ◌∷◌, map, true, is_lt, inl, inr, sym, ap, subst, ◌∙◌, arith}
 use Rattle.std.specs.List.{AllByRecursion, AllZip}
 use Rattle.std.specs.List.Sorted.{IsPermutation}
 use Rattle.std.specs.Ordering.{nat_cmp, int_cmp, ordering_then}
 use Rattle.std.proofs.lemmas.Bool.Decides.{leb_tells, nat_tests}
-use Rattle.std.proofs.lemmas.List.Sorted.{All-permutation, IsPermutation-sym, IsPermutation-trans}
+use Rattle.std.proofs.lemmas.List.Sorted.{IsPermutation-sym, IsPermutation-trans}
 use Rattle.amount.specs.Column.{KeepsOrder, column_of}
-use Rattle.rows.specs.declared.account_cells.AccountCells.{AccountCells}
-use Rattle.rows.specs.declared.transfer_cells.TransferCells.{TransferCells}
-use Rattle.rows.specs.declared.balance_cells.BalanceCells.{BalanceCells}
-use Rattle.rows.specs.declared.status_cells.StatusCells.{StatusCells}
-use Rattle.rows.specs.declared.history_cells.HistoryCells.{HistoryCells}
 use Rattle.rows.specs.declared.balance_row.BalanceRow.{BalanceRow}
 use Rattle.rows.specs.declared.status_row.StatusRow.{StatusRow}
 use Rattle.rows.specs.declared.history_row.HistoryRow.{HistoryRow}
@@ -27,9 +22,6 @@ use Rattle.std.proofs.lemmas.List.Elements.{All-from_recursion, recursion_from_A
 use Rattle.openings.specs.Opened.{IsSoundIn}
 use Rattle.openings.specs.Told.{SoundHasNoDamage}
 use Rattle.openings.specs.Whole.{AreAllRows, IsReadFor}
-use Rattle.sqlite_value.specs.declared.value.Value.{Value}
-use Rattle.sqlite_value.specs.declared.value.Value.TheVariants.{Int, Blob}
-use Rattle.sqlite_value.specs.Order.{Row, column}
 use Rattle.sqlite_trees.specs.Tree.{Trees}
 use Rattle.ledger_sql.specs.Reading.{balance_cmp, history_cmp, id_cmp, status_cmp}
 use Rattle.ledger_sql.specs.TableRows.{account_rows, balance_rows, clock_rows, failed_rows, history_rows, status_rows, transfer_rows}
@@ -37,72 +29,8 @@ use Rattle.ledger_sql.specs.Values.{account_values, balance_values, clock_values
 use Rattle.openings.specs.Tables.{AreTenantRows}
 use Rattle.openings.proofs.HeldMachines.{only_one, same_numbers}
 use Rattle.openings.proofs.OpenedLedger.{RowsFit}
-use Rattle.openings.proofs.SoundAgain.{OneOrder, Typed, read_since, read_twice, typed_again}
+use Rattle.openings.proofs.SoundAgain.{OneOrder, Typed, read_again, read_since}
 use Rattle.openings.proofs.ToldLemmas.{read_named}
-
--- the cells in a row of values
-abbrev number : Value → ℤ
-number (Int n) = n
-number _ = pos 0
-
-abbrev bytes : Value → List ℕ
-bytes (Blob b) = b
-bytes _ = []
-
-abbrev account_back : Row → AccountCells
-account_back r = record {
-  id = bytes (column r 0);
-  user_data_128 = bytes (column r 1);
-  user_data_64 = bytes (column r 2);
-  user_data_32 = number (column r 3);
-  ledger = number (column r 4);
-  code = number (column r 5);
-  flags = number (column r 6);
-  timestamp = number (column r 7);
-}
-
-abbrev transfer_back : Row → TransferCells
-transfer_back r = record {
-  id = bytes (column r 0);
-  debit = bytes (column r 1);
-  credit = bytes (column r 2);
-  amount = bytes (column r 3);
-  pending_id = bytes (column r 4);
-  user_data_128 = bytes (column r 5);
-  user_data_64 = bytes (column r 6);
-  user_data_32 = number (column r 7);
-  timeout = number (column r 8);
-  ledger = number (column r 9);
-  code = number (column r 10);
-  flags = number (column r 11);
-  timestamp = number (column r 12);
-  at_clock = number (column r 13);
-}
-
-abbrev balance_back : Row → BalanceCells
-balance_back r = record {
-  account = bytes (column r 0);
-  dp = bytes (column r 1);
-  dd = bytes (column r 2);
-  cp = bytes (column r 3);
-  cc = bytes (column r 4);
-}
-
-abbrev status_back : Row → StatusCells
-status_back r = record { transfer = bytes (column r 0); state = number (column r 1); due = number (column r 2) }
-
-abbrev history_back : Row → HistoryCells
-history_back r = record {
-  account = bytes (column r 0);
-  timestamp = number (column r 1);
-  dp = bytes (column r 2);
-  dd = bytes (column r 3);
-  cp = bytes (column r 4);
-  cc = bytes (column r 5);
-}
-
-abbrev id_back : Row → List ℕ
-id_back r = bytes (column r 0)
 
 -- what is known of the rows of valid machines, and of rows that are read in order
 pub record Known : Type 0 where
@@ -140,9 +68,6 @@ history_less order x y fits_x fits_y less =
       | inr gt ↦ first_less x.account y.account x.timestamp y.timestamp (omega (arith, gt.1))
     ])
 
-from_version : (first version : ℕ) → (first ≤ version) ⊎ (version < first)
-from_version first version = elim (leb_tells first version) [ inl there ↦ inl there.1 | inr none ↦ inr none.1 ]
-
 module _ (known : Known) (version : ℕ) (tenant : ℤ) (trees : Trees) (a b : FileRows)
     (read : AreTenantRows version tenant trees a) (second : AreTenantRows version tenant trees b)
     (sound : AreSound version a) where
@@ -163,45 +88,46 @@ module _ (known : Known) (version : ℕ) (tenant : ℤ) (trees : Trees) (a b : F
       (subst (λ rows. IsPermutation (map clock_values b.clocks) rows) is
       (IsPermutation-sym (clock_rows tenant trees) (map clock_values b.clocks) second.clocks.all))))
 
-  abbrev accounts : Typed account_cells typed.accounts b.accounts
+  accounts : Typed account_cells typed.accounts b.accounts
   accounts =
-      typed_again account_cells typed.accounts b.accounts (read_twice account_values account_back (λ c. refl)
-      (account_rows tenant trees) (map account_cells typed.accounts) b.accounts first.accounts.all second.accounts.all)
+      read_again account_values (λ c d same. let e : record c { id = c.id } ≡ record d { id = d.id } = cc in e) account_cells
+      (account_rows tenant trees) typed.accounts b.accounts first.accounts.all second.accounts.all
 
-  abbrev transfers : Typed transfer_cells typed.transfers b.transfers
+  transfers : Typed transfer_cells typed.transfers b.transfers
   transfers =
-      typed_again transfer_cells typed.transfers b.transfers (read_twice transfer_values transfer_back (λ c. refl)
-      (transfer_rows tenant trees) (map transfer_cells typed.transfers) b.transfers first.transfers.all second.transfers.all)
+      read_again transfer_values (λ c d same. let e : record c { id = c.id } ≡ record d { id = d.id } = cc in e) transfer_cells
+      (transfer_rows tenant trees) typed.transfers b.transfers first.transfers.all second.transfers.all
 
   balances_same : map balance_cells typed.balances ≡ b.balances
   balances_same =
-      read_since balance_values balance_back (λ c. refl) balance_cells balance_cmp (λ row. row.account) IsStorableBalance
+      read_since balance_values (λ c d same. let e : record c { account = c.account } ≡ record d { account = d.account } = cc in e)
+      balance_cells balance_cmp (λ row. row.account) IsStorableBalance
       (λ t u fit_t fit_u. columns_less known.order t.account u.account fit_t.account fit_u.account) known.balances
-      (balance_rows tenant trees) typed.balances
-      (All-permutation IsStorableBalance (rows_for version sound.0).balances typed.balances sound.2.same.balances fits.balances)
-      sound.2.in_order.balances 2 version b.balances (from_version 2 version) first.balances second.balances
+      (balance_rows tenant trees) (rows_for version sound.0).balances typed.balances sound.2.same.balances fits.balances
+      sound.2.in_order.balances 2 version b.balances first.balances second.balances
 
   statuses_same : map status_cells typed.statuses ≡ b.statuses
   statuses_same =
-      read_since status_values status_back (λ c. refl) status_cells status_cmp (λ row. row.transfer) IsStorableStatus
+      read_since status_values (λ c d same. let e : record c { transfer = c.transfer } ≡ record d { transfer = d.transfer } = cc in e)
+      status_cells status_cmp (λ row. row.transfer) IsStorableStatus
       (λ t u fit_t fit_u. columns_less known.order t.transfer u.transfer fit_t.transfer fit_u.transfer) known.statuses
-      (status_rows tenant trees) typed.statuses
-      (All-permutation IsStorableStatus (rows_for version sound.0).statuses typed.statuses sound.2.same.statuses fits.statuses)
-      sound.2.in_order.statuses 2 version b.statuses (from_version 2 version) first.statuses second.statuses
+      (status_rows tenant trees) (rows_for version sound.0).statuses typed.statuses sound.2.same.statuses fits.statuses
+      sound.2.in_order.statuses 2 version b.statuses first.statuses second.statuses
 
   history_same : map history_cells typed.history ≡ b.history
   history_same =
-      read_since history_values history_back (λ c. refl) history_cells history_cmp history_key IsStorableHistory
-      (history_less known.order) known.history (history_rows tenant trees) typed.history
-      (All-permutation IsStorableHistory (rows_for version sound.0).history typed.history sound.2.same.history fits.history)
-      sound.2.in_order.history 2 version b.history (from_version 2 version) first.history second.history
+      read_since history_values (λ c d same. let e : record c { account = c.account } ≡ record d { account = d.account } = cc in e)
+      history_cells history_cmp history_key IsStorableHistory
+      (history_less known.order) known.history (history_rows tenant trees) (rows_for version sound.0).history typed.history
+      sound.2.same.history fits.history
+      sound.2.in_order.history 2 version b.history first.history second.history
 
   failed_same : map column_of typed.failed ≡ b.failed
   failed_same =
-      read_since id_values id_back (λ c. refl) column_of id_cmp (λ id. id) (λ id. id < 2 ^ 128)
-      (λ t u fit_t fit_u. columns_less known.order t u fit_t fit_u) known.failed (failed_rows tenant trees) typed.failed
-      (All-permutation (λ id. id < 2 ^ 128) (rows_for version sound.0).failed typed.failed sound.2.same.failed fits.failed)
-      sound.2.in_order.failed 3 version b.failed (from_version 3 version) first.failed second.failed
+      read_since id_values (λ c d same. cc) column_of id_cmp (λ id. id) (λ id. id < 2 ^ 128)
+      (λ t u fit_t fit_u. columns_less known.order t u fit_t fit_u) known.failed (failed_rows tenant trees)
+      (rows_for version sound.0).failed typed.failed sound.2.same.failed fits.failed
+      sound.2.in_order.failed 3 version b.failed first.failed second.failed
 
   -- a tenant that is sound in one reading is so in another
   sound_again : AreSound version b

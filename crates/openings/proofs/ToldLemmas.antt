@@ -6,7 +6,6 @@ use Rattle.audit.specs.declared.damage.Damage.{Damage}
 use Rattle.audit.specs.declared.damage.AuditFault.{AuditFault}
 use Rattle.audit.specs.declared.damage.AuditFault.TheVariants as audit
 use Rattle.audit.specs.Damage.{IfDamaged as IfAuditDamaged}
-use Rattle.records.specs.declared.unavailable.Unavailable.{Unavailable}
 use Rattle.sqlite.specs.Effect.{Database}
 use Rattle.sqlite_schema.specs.declared.schema.Schema.{Schema}
 use Rattle.ledger_sql.specs.Effects.{StartsAs}
@@ -82,17 +81,9 @@ none_damaged (fault.Damaged damage) none = none damage refl
 none_damaged (fault.Unavailable why) none = tt
 
 -- a call that was in want of something is told as that, whatever the database is
-told_want : (cause : TableFault) (db : Database) → Warrants (open_fault_of cause) db
-told_want table.Missing db = tt
-told_want (table.Unavailable why) db = tt
-
-pub told_by_call : {T : Type 0} (r : Result T OpenFault) (cause : TableFault) (db : Database)
-    → r ≡ Err (open_fault_of cause) → IfErr r (λ told. Warrants told db)
-told_by_call r cause db is = rw is (told_want cause db)
-
-pub told_by_want : {T : Type 0} (r : Result T OpenFault) (why : Unavailable) (db : Database)
-    → r ≡ Err (fault.Unavailable why) → IfErr r (λ told. Warrants told db)
-told_by_want r why db is = rw is tt
+pub told_by_call : (cause : TableFault) (db : Database) → Warrants (open_fault_of cause) db
+told_by_call table.Missing db = tt
+told_by_call (table.Unavailable why) db = tt
 
 -- either tells a fault of the version alone, and so does such a call
 module _ (told : OpenFault) where
@@ -117,16 +108,11 @@ pub of_version_by_call : {T : Type 0} (r : Result T OpenFault) (cause : TableFau
 of_version_by_call r cause is = rw is (of_version_want cause)
 
 -- so is an audit, unless it found damage
-told_audit : (cause : AuditFault) (db : Database) (P : Damage → Type 0)
+pub told_by_audit : (cause : AuditFault) (db : Database) (P : Damage → Type 0)
     → ((damage : Damage) → P damage → Warrants (fault.Damaged damage) db) → IfAuditDamaged cause P
     → Warrants (damage_fault cause) db
-told_audit (audit.Damaged damage) db P more found = more damage found
-told_audit audit.Memory db P more found = tt
-
-pub told_by_audit : {T : Type 0} (r : Result T OpenFault) (cause : AuditFault) (db : Database) (P : Damage → Type 0)
-    → r ≡ Err (damage_fault cause) → ((damage : Damage) → P damage → Warrants (fault.Damaged damage) db)
-    → IfAuditDamaged cause P → IfErr r (λ told. Warrants told db)
-told_by_audit r cause db P is more found = rw is (told_audit cause db P more found)
+told_by_audit (audit.Damaged damage) db P more found = more damage found
+told_by_audit audit.Memory db P more found = tt
 
 -- the current version is named
 pub names_current : (db : Database) → IsCurrent db → NamesVersion (pos 3) db.trees

@@ -13,3 +13,4 @@ pub mod DamageLaws
 pub mod NameLaws
 pub mod AtPath
 pub mod Calls
+pub mod CallLaws

@@ -28,11 +28,9 @@ fn sets_of(
     ensures { IfOk result (λ sets. AreKept sets directory.now tenants.now) }
 {
     let mut sets = BTreeMap::new(alloc);
-    for (place, row) in directory.iter().enumerate() {
-        if let Some(tenant) = tenants.get(place) {
-            let set = due_set(alloc, &tenant.rows.statuses)?;
-            sets.insert(row.number, set)?;
-        }
+    for (row, tenant) in directory.iter().zip(tenants) {
+        let set = due_set(alloc, &tenant.rows.statuses)?;
+        sets.insert(row.number, set)?;
     }
     Ok(sets)
 }

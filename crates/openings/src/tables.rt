@@ -1,7 +1,7 @@
 //! A tenant's rows of each table.
 
 ghost use Rattle.ledger_sql.specs.Effects.{StartsAs};
-ghost use Rattle.ledger_sql.specs.Schema.{list_schema, balance_schema, ledger_schema};
+ghost use Rattle.ledger_sql.specs.Schema.{list_schema};
 ghost use Rattle.rows.specs.TypedRows.{lists_of};
 ghost use Rattle.openings.specs.Calls.{ReadsTables};
 ghost use Rattle.openings.specs.Tables.{AreTenantRows, HasTables};
@@ -26,13 +26,24 @@ pub fn read_tenant<S: Alter>(
         (λ trees rows. AreTenantRows version tenant trees (lists_of rows))
         S.Store conn.old conn.new result }
 {
+    let entries = read_entries(alloc, conn, tenant)?;
     if version < 2 {
-        return read_entries(alloc, conn, tenant);
+        return Ok(entries);
     }
+    let balances = list_balances(alloc, conn, tenant)?;
+    let statuses = list_statuses(alloc, conn, tenant)?;
+    let history = list_history(alloc, conn, tenant)?;
+    let derived = TenantRows {
+        balances,
+        statuses,
+        history,
+        ..entries
+    };
     if version < 3 {
-        return read_with_derived(alloc, conn, tenant);
+        return Ok(derived);
     }
-    read_with_failed(alloc, conn, tenant)
+    let failed = list_failed(alloc, conn, tenant)?;
+    Ok(TenantRows { failed, ..derived })
 }
 
 /// Those of version 1.
@@ -57,41 +68,4 @@ fn read_entries<S: Alter>(
         history: Vec::new(alloc),
         failed: Vec::new(alloc),
     })
-}
-
-/// Those of version 2, which has balances, statuses and history too.
-fn read_with_derived<S: Alter>(
-    alloc: Global,
-    conn: &mut Connection<S>,
-    tenant: i64,
-) -> Result<TenantRows, Unavailable>
-    ensures { ReadsTables (StartsAs balance_schema.tables)
-        (λ trees rows. AreTenantRows 2 tenant trees (lists_of rows))
-        S.Store conn.old conn.new result }
-{
-    let entries = read_entries(alloc, conn, tenant)?;
-    let balances = list_balances(alloc, conn, tenant)?;
-    let statuses = list_statuses(alloc, conn, tenant)?;
-    let history = list_history(alloc, conn, tenant)?;
-    Ok(TenantRows {
-        balances,
-        statuses,
-        history,
-        ..entries
-    })
-}
-
-/// Those of version 3, which has failed ids too.
-fn read_with_failed<S: Alter>(
-    alloc: Global,
-    conn: &mut Connection<S>,
-    tenant: i64,
-) -> Result<TenantRows, Unavailable>
-    ensures { ReadsTables (StartsAs ledger_schema.tables)
-        (λ trees rows. AreTenantRows 3 tenant trees (lists_of rows))
-        S.Store conn.old conn.new result }
-{
-    let derived = read_with_derived(alloc, conn, tenant)?;
-    let failed = list_failed(alloc, conn, tenant)?;
-    Ok(TenantRows { failed, ..derived })
 }

@@ -11,7 +11,8 @@ use Rattle.polling.specs.Serving.{Hall, hall, Terms, gone_with, IsNumberFree, Oc
 use Rattle.polling.specs.Seating.{with_talk, AreSame, HadNone, held, Held, HoldsHall, LeadsAll, LeadsOwed, ServesAll, ServesOwed, ServesEach}
 use Rattle.polling.proofs.OneLemmas.{once, serves_on, replies_both, with_talk-own, with_talk-other}
 use Rattle.polling.proofs.GoingLemmas.{unseated_closes}
-use Rattle.polling.proofs.StandLemmas.{at_other, by_client, AllStand, rested_ends, rested_kept, one_stands, one_stands_on, told_stand}
+use Rattle.clients.proofs.ClientLemmas.{at_other, by_client}
+use Rattle.polling.proofs.StandLemmas.{AllStand, rested_ends, rested_kept, one_stands, one_stands_on, told_stand}
 use Rattle.polling.proofs.StandLemmas.{owes_still, owes_none, owes_less, owes_then, owes_beside, owes_fewer, owes_nobody, owes_told, keeps_still, keeps_one, keeps_then, keeps_for, keeps_told}
 
 -- a client's talk, put where it is

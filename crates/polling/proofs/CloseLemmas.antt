@@ -10,9 +10,9 @@ use Rattle.polling.specs.Serving.{Hall, hall, Terms, gone_with, Occurs, Stirs, G
 use Rattle.polling.specs.Seating.{with_talk, stands_by, replies_in, ServesOne, SeatsNow, held, HoldsHall, LeadsOwed, ServesOwed, ServesTold}
 use Rattle.polling.specs.declared.peers.Told.TheVariants.{Late}
 use Rattle.polling.specs.declared.step.Step.TheVariants as step
-use Rattle.polling.proofs.OneLemmas.{once, replies_both, with_talk-other}
+use Rattle.polling.proofs.OneLemmas.{by_seat, once, replies_both, with_talk-other}
 use Rattle.polling.proofs.GoingLemmas.{leaving_closes, late_overdue, standing-twice}
-use Rattle.polling.proofs.StandLemmas.{by_client, standing-own, one_stands, after_stand, owes_none, owes_then, owes_beside, owes_after, keeps_one, keeps_then, keeps_after}
+use Rattle.polling.proofs.StandLemmas.{standing-own, one_stands, after_stand, owes_none, owes_then, owes_beside, owes_after, keeps_one, keeps_then, keeps_after}
 use Rattle.polling.proofs.AllLemmas.{gone_with-other, used, same_hall}
 
 module _ {S C P : Type 0} where
@@ -47,10 +47,10 @@ module _ {S C P : Type 0} where
       let after =
       hall ledgers_now moments_now peers_now (with_talk client talk_now talks) gone stands in
       let stand = after_stand deeds seats first.stands keeps.stands in
-      let before : (other : ℕ) → other ≢ client → seats_now other ≡ seats other =
-      λ other differ. now.1 other differ ∙ mid.1 other differ in
-      let empty : (seat : Talk) → seats_now client ≡ Some seat → ⊥ =
-      λ seat is. false≢true (ap is_some (sym now.0 ∙ is)) in record {
+      let both : SeatsNow client None seats seats_now =
+      (now.0, λ other differ. now.1 other differ ∙ mid.1 other differ) in
+      let empty : (seat : Talk) → None ≡ Some seat → ⊥ =
+      λ seat is. false≢true (ap is_some is) in record {
         deeds = deeds ++ [];
         last = after;
         leads =
@@ -73,24 +73,18 @@ module _ {S C P : Type 0} where
               moments = refl;
               peers = refl;
               seated =
-                  by_client
-                  (λ each.
-                  (seat : Talk) → seats_now each ≡ Some seat
-                  → with_talk client talk_now talks each ≡ seat)
-                  client (λ seat is. absurd (empty seat is))
+                  by_seat (λ each seat. with_talk client talk_now talks each ≡ seat) client None seats
+                  seats_now both (λ seat is. absurd (empty seat is))
                   (λ other differ seat is.
-                  with_talk-other client other talk_now talks differ
-                  ∙ keeps.seated other seat (sym (before other differ) ∙ is));
+                  with_talk-other client other talk_now talks differ ∙ keeps.seated other seat is);
               there =
-                  by_client (λ each. (seat : Talk) → seats_now each ≡ Some seat → gone each ≡ false)
-                  client (λ seat is. absurd (empty seat is))
-                  (λ other differ seat is.
-                  gone_with-other client other first.gone differ
-                  ∙ keeps.there other seat (sym (before other differ) ∙ is));
-              below =
-                  by_client (λ each. (seat : Talk) → seats_now each ≡ Some seat → each < next) client
+                  by_seat (λ each seat. gone each ≡ false) client None seats seats_now both
                   (λ seat is. absurd (empty seat is))
-                  (λ other differ seat is. keeps.below other seat (sym (before other differ) ∙ is));
+                  (λ other differ seat is.
+                  gone_with-other client other first.gone differ ∙ keeps.there other seat is);
+              below =
+                  by_seat (λ each seat. each < next) client None seats seats_now both
+                  (λ seat is. absurd (empty seat is)) (λ other differ. keeps.below other);
               unused =
                   λ other beyond.
                   with_talk-other client other talk_now talks
@@ -106,7 +100,7 @@ module _ {S C P : Type 0} where
                   (subst (λ (seat : Option Talk). StandsIn seat Away) (sym now.0) refl)
                   (λ other differ.
                   subst (λ (seat : Option Talk). StandsIn seat (stood other))
-                  (sym (before other differ)) (stand other));
+                  (sym (both.1 other differ)) (stand other));
             };
         count = replies_both deeds [] replies 0 replies count refl (omega arith);
         owes =

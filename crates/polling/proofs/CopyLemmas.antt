@@ -1,5 +1,5 @@
 -- Messages that are copied for a round.
-use Rattle.std.proofs.Common.{◌≡◌, ◌≢◌, refl, sym, ◌∙◌, subst, ℕ, List, [], ◌∷◌, ◌++◌, Option, Some, Result, Err, arith}
+use Rattle.std.proofs.Common.{◌≡◌, ◌≢◌, ◌⊎◌, inl, inr, refl, sym, ◌∙◌, subst, ℕ, List, [], ◌∷◌, ◌++◌, Option, Some, Result, Err, arith}
 use Rattle.std.proofs.Math.Path.{fun_ext}
 use Rattle.records.specs.declared.unavailable.Unavailable.{Unavailable}
 use Rattle.records.specs.declared.unavailable.Unavailable.TheVariants.{Memory, Size, Disk}
@@ -19,19 +19,24 @@ use Rattle.polling.proofs.AllLemmas.{then_each, unchanged}
 use Rattle.polling.proofs.RestLemmas.{passes_all, rests_all}
 use Rattle.polling.specs.declared.round.Member.{Member}
 
-pub memory_differs : Memory ≢ Disk
+memory_differs : Memory ≢ Disk
 memory_differs same = cc
 
-pub size_differs : Size ≢ Disk
+size_differs : Size ≢ Disk
 size_differs same = cc
+
+-- want of memory or size is no failure of the disk
+pub disk_stands : (why : Unavailable) → (why ≡ Memory) ⊎ (why ≡ Size) → why ≢ Disk
+disk_stands why (inl memory) disk = memory_differs (sym memory ∙ disk)
+disk_stands why (inr size) disk = size_differs (sym size ∙ disk)
 
 -- a round that was refused otherwise was not lost with the disk
 pub not_lost :
-    {O : Type 0} (result : Result O Unavailable) (given why : Unavailable) → result ≡ Err given →
-    given ≡ why → why ≢ Disk → result ≢ Err Disk
-not_lost {O} result given why is known differs same =
-    let lost : ◌≡◌ {A = Result O Unavailable} (Err given) (Err Disk) = sym is ∙ same in
-    differs (sym known ∙ (let all : given ≡ Disk = cc in all))
+    {O : Type 0} (result : Result O Unavailable) (why : Unavailable) → result ≡ Err why →
+    why ≢ Disk → result ≢ Err Disk
+not_lost {O} result why is differs same =
+    let lost : ◌≡◌ {A = Result O Unavailable} (Err why) (Err Disk) = sym is ∙ same in
+    differs (let all : why ≡ Disk = cc in all)
 
 copied_more :
     (seats : ℕ → Option Talk) (members : List Member) (messages : List Message) (member : Member)

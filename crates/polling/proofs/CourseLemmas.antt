@@ -18,7 +18,7 @@ use Rattle.service.specs.EventLaws.{all_append, unavailable_tells_nothing, still
 use Rattle.service.specs.Replies.{unavailable}
 use Rattle.service.specs.OwnDeeds.{EachSeesItself}
 use Rattle.clients.specs.Deeds.{Room, Act, Came, Ended, Replied, Continued, Wrote, IsActed, Lives}
-use Rattle.clients.specs.Deeds as life
+use Rattle.service.specs.InTurn.{Nothing, More}
 use Rattle.polling.specs.Serving.{Hall, Terms, Occurs, Did, Tells, Stirs, Puts_off, Joins, Goes, Again, Rests, Passes, Fails, Proceeds, Begin, Then}
 use Rattle.polling.specs.Serving.{AreAsBefore, HasFailed, IsToldUnavailable, AreToldUnavailable}
 use Rattle.polling.specs.Serving.{events_by, events_of}
@@ -137,8 +137,8 @@ still_deeds :
     (first last : Room S C) (deeds : List Act) (lives : Lives S C t gives first deeds last) →
     AreToldUnavailable gone lives →
     AllByRecursion IsStill (events_of lives) × AllByRecursion IsFree (events_of lives)
-still_deeds t gives gone first last deeds life.Begin told = (tt, tt)
-still_deeds t gives gone first last deeds (life.Then before mid deed next lives done) told =
+still_deeds t gives gone first last deeds Nothing told = (tt, tt)
+still_deeds t gives gone first last deeds (More before mid deed next lives done) told =
     let earlier = still_deeds t gives gone first mid before lives told.0 in
     let one = still_deed t gives gone mid next deed done told.1 in (
       all_append IsStill (events_of lives) (events_by deed done) earlier.0 one.0,

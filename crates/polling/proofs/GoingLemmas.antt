@@ -10,7 +10,8 @@ use Rattle.polling.specs.Standing.{has_seat, expired, leaving, with_standing, st
 use Rattle.polling.specs.Peers.{Said}
 use Rattle.polling.specs.declared.peers.Told.{Told}
 use Rattle.polling.specs.declared.peers.Told.TheVariants.{Joined, Ready, Late, Nothing}
-use Rattle.polling.proofs.StandLemmas.{by_client, standing-own, standing-other}
+use Rattle.clients.proofs.ClientLemmas.{by_client}
+use Rattle.polling.proofs.StandLemmas.{standing-own, standing-other}
 
 -- who goes may be closed
 pub leaving_closes : (standing : Standing) → MayClose (leaving standing)

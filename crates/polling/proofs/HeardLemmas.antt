@@ -9,9 +9,9 @@ use Rattle.ledger_http.specs.ReplyText.{reply_text}
 use Rattle.service.specs.Connections.{texts_of}
 use Rattle.clients.specs.Talk.{Talk, owed}
 use Rattle.clients.specs.Answering.{MayCome}
-use Rattle.clients.specs.Turns.{Sent, ToldReply, if_told, told_to, Hears, Nothing_yet, One_more, HearTheirOwn}
+use Rattle.clients.specs.Turns.{Sent, ToldReply, if_told, told_to, Hears, HearTheirOwn}
 use Rattle.clients.specs.Deeds.{Room, Act, IsActed, Lives, if_own, come_from, written_in, written_to, told_in, all_told, came_in, sent_with, clients_of, MightCome, AreExchanges, AreWritten}
-use Rattle.clients.specs.Deeds as life
+use Rattle.service.specs.InTurn.{Nothing, More}
 use Rattle.polling.specs.Serving.{Hall, Terms, Occurs, Did, Tells, Stirs, Puts_off, Joins, Goes, Again, Rests, Passes, Fails, Proceeds, Begin, Then}
 use Rattle.polling.specs.Laws.{EachIsServed, ReadsBy, ReadsThrough, machines_by, machines_in}
 
@@ -20,12 +20,12 @@ hears_on :
     {S C : Type 0} (t : LedgersMeaning S) (gives : C → ℕ → C → Type 0) (first mid last : Sent)
     (before more : List Reply) → Hears S C t gives first before mid → Hears S C t gives mid more last →
     Hears S C t gives first (before ++ more) last
-hears_on {S} {C} t gives first mid last before more heard Nothing_yet =
+hears_on {S} {C} t gives first mid last before more heard Nothing =
     subst (λ (all : List Reply). Hears S C t gives first all mid) (sym (append-nil before)) heard
-hears_on {S} {C} t gives first mid last before more heard (One_more replies behind reply next rest one) =
+hears_on {S} {C} t gives first mid last before more heard (More replies behind reply next rest one) =
     subst (λ (all : List Reply). Hears S C t gives first all next)
     (append_assoc before replies (reply ∷ []))
-    (One_more (before ++ replies) behind reply next
+    (More (before ++ replies) behind reply next
     (hears_on t gives first mid behind before replies heard rest) one)
 
 texts-append : (front back : List Reply) → texts_of (front ++ back) ≡ texts_of front ++ texts_of back
@@ -66,7 +66,7 @@ module _ {S C P : Type 0} (r : Terms S C P) where
   one_deed :
       (old new : Room S C) (deed : Act) → IsActed r.means r.gives old deed new →
       Lives S C r.means r.gives old (deed ∷ []) new
-  one_deed old new deed done = life.Then [] old deed new life.Begin done
+  one_deed old new deed done = More [] old deed new Nothing done
 
   -- what one client hears by what happens
   abbrev pub HearsBy : Room S C → List Act → Room S C → ℕ → List ℕ → Type 0
@@ -100,14 +100,14 @@ module _ {S C P : Type 0} (r : Terms S C P) where
   step_heard hear exchanges last next more (Did deed room peers live done settled hands) client later may =
       deeds_heard hear exchanges last.room room (deed ∷ []) (one_deed last.room room deed done) client
       later may
-  step_heard hear exchanges last next more (Tells fresh told peers free does) client later may = Nothing_yet
-  step_heard hear exchanges last next more (Stirs doing peers may_stir does) client later may = Nothing_yet
-  step_heard hear exchanges last next more (Puts_off who peers is does) client later may = Nothing_yet
-  step_heard hear exchanges last next more (Joins who away) client later may = Nothing_yet
-  step_heard hear exchanges last next more (Goes who peers may_go) client later may = Nothing_yet
-  step_heard hear exchanges last next more (Again ledgers renews) client later may = Nothing_yet
-  step_heard hear exchanges last next more (Rests ledgers same) client later may = Nothing_yet
-  step_heard hear exchanges last next more (Passes moments given passed) client later may = Nothing_yet
+  step_heard hear exchanges last next more (Tells fresh told peers free does) client later may = Nothing
+  step_heard hear exchanges last next more (Stirs doing peers may_stir does) client later may = Nothing
+  step_heard hear exchanges last next more (Puts_off who peers is does) client later may = Nothing
+  step_heard hear exchanges last next more (Joins who away) client later may = Nothing
+  step_heard hear exchanges last next more (Goes who peers may_go) client later may = Nothing
+  step_heard hear exchanges last next more (Again ledgers renews) client later may = Nothing
+  step_heard hear exchanges last next more (Rests ledgers same) client later may = Nothing
+  step_heard hear exchanges last next more (Passes moments given passed) client later may = Nothing
   step_heard hear exchanges last next more (Fails deeds room ledgers stands lives told failed begun) client later
       may =
       deeds_heard hear exchanges last.room room deeds lives client later may
@@ -129,8 +129,8 @@ module _ {S C P : Type 0} (r : Terms S C P) where
       Lives S C r.means r.gives first deeds last → (client : ℕ) (later : List ℕ) →
       MayCome (last.talks client).unread later →
       MayCome (first.talks client).unread (come_from client deeds ++ later)
-  deeds_may might first last deeds life.Begin client later may = may
-  deeds_may might first last deeds (life.Then before mid deed next lives done) client later may =
+  deeds_may might first last deeds Nothing client later may = may
+  deeds_may might first last deeds (More before mid deed next lives done) client later may =
       subst
       (λ (bytes : List ℕ). MayCome (first.talks client).unread bytes)
       (sym (append_assoc (come_from client before) (came_in client deed) later)
@@ -164,7 +164,7 @@ module _ {S C P : Type 0} (r : Terms S C P) where
       (first last : Hall S C P) (deeds : List Act) → Proceeds S C P r first deeds last →
       (client : ℕ) (later : List ℕ) → MayCome (last.room.talks client).unread later →
       HearsBy first.room deeds last.room client later
-  all_heard might hear exchanges first last deeds Begin client later may = Nothing_yet
+  all_heard might hear exchanges first last deeds Begin client later may = Nothing
   all_heard might hear exchanges first last deeds (Then before mid more next serves happens) client
       later may =
       let came = come_from client more ++ later in

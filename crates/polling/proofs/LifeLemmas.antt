@@ -3,7 +3,7 @@ use Rattle.std.proofs.Common.{◌≡◌, refl, sym, ap, ◌∙◌, subst, ℕ, L
 use Rattle.std.proofs.lemmas.Bool.{false≢true}
 use Rattle.std.proofs.lemmas.List.{append-nil}
 use Rattle.clients.specs.Deeds.{Room, Act, Lives}
-use Rattle.clients.specs.Deeds as life
+use Rattle.service.specs.InTurn.{Nothing, More}
 use Rattle.clients.specs.Talk.{Talk}
 use Rattle.polling.specs.Serving.{Hall, Terms, Occurs, Did, Tells, Stirs, Puts_off, Joins, Goes, Again, Rests, Passes, Fails, Begin, Then}
 use Rattle.polling.specs.Serving.{rounds_of, rounds_in}
@@ -26,7 +26,7 @@ one_more :
     rounds_of happens ≡ 0 →
     Lives S C r.means r.gives first (deeds ++ more) next.room
 one_more r same first last next deeds more lives (Did deed room peers live done settled hands) none =
-    life.Then deeds last.room deed room lives done
+    More deeds last.room deed room lives done
 one_more r same first last next deeds more lives (Tells fresh told peers free does) none =
     stays r first last.room deeds lives
 one_more r same first last next deeds more lives (Stirs doing peers may does) none =
@@ -50,7 +50,7 @@ one_more r same first last next deeds more lives (Fails also room ledgers stands
     absurd (omega (arith, none))
 
 pub are_lives : {S C P : Type 0} (r : Terms S C P) → AreLives r
-are_lives r same first last deeds Begin none = life.Begin
+are_lives r same first last deeds Begin none = Nothing
 are_lives r same first last deeds (Then before mid more next serves happens) none =
     let earlier : rounds_in serves ≡ 0 = omega (arith, none) in
     one_more r same first.room mid next before more

@@ -21,7 +21,7 @@ use Rattle.service.specs.Turns.{RespondsTo, RespondInTurn, TakeTurns}
 use Rattle.clients.specs.Talk.{Talk, may_answer}
 use Rattle.clients.specs.Answering.{IsReplyReady}
 use Rattle.clients.specs.Deeds.{Room, Act, Replied, IsActed, Lives}
-use Rattle.clients.specs.Deeds as life
+use Rattle.service.specs.InTurn.{Nothing, More}
 use Rattle.clients.specs.Within.{replied_to, Asks, TellsUnavailable, HeadsAreUnique}
 use Rattle.polling.specs.Peers.{Doing}
 use Rattle.polling.specs.Serving.{Hall, rules, AreGiven, HasFailed, Fails}
@@ -185,7 +185,7 @@ module _ {S C P : Type 0} (t : LedgersMeaning S) (gives : C → ℕ → C → Ty
       deeds = [];
       room = first.room;
       moments = moments;
-      lives = life.Begin;
+      lives = Nothing;
       told = tt;
       keeps =
           keeps_room (held (Whole ledgers) moments peers seats next) first first.room first.stands
@@ -261,7 +261,7 @@ module _ {S C P : Type 0} (t : LedgersMeaning S) (gives : C → ℕ → C → Ty
             copy.ready rest.1 follows)
             so.keeps in
             let deed = Replied number unavailable in
-            let lives = life.Then so.deeds so.room deed one.room so.lives one.done in
+            let lives = More so.deeds so.room deed one.room so.lives one.done in
             record {
               deeds = so.deeds ++ deed ∷ [];
               room = one.room;

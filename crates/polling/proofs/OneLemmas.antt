@@ -1,5 +1,5 @@
 -- One client among all: what is done for it is done in a hall.
-use Rattle.std.proofs.Common.{◌≡◌, ◌≢◌, refl, ap, sym, ◌∙◌, subst, ℕ, Bool, true, false, List, [], ◌∷◌, ◌++◌, append_assoc, length, ◌+◌, take}
+use Rattle.std.proofs.Common.{◌≡◌, ◌≢◌, refl, ap, sym, ◌∙◌, subst, ℕ, Bool, true, false, List, [], ◌∷◌, ◌++◌, append_assoc, length, ◌+◌, take, Option, Some}
 use Rattle.std.proofs.lemmas.Bool.{true≢false}
 use Rattle.std.proofs.lemmas.List.{append-nil, take-append-drop, length-append}
 use Rattle.std.proofs.lemmas.Grind.{flat_map-append}
@@ -9,15 +9,16 @@ use Rattle.clients.specs.Talk.{Talk, continued, received, input_ended, written, 
 use Rattle.clients.specs.Answering.{IsUnmoved, IsWanting, IsReplyReady}
 use Rattle.clients.specs.Deeds.{Act, Came, Replied, Continued, Wrote, client_of, Does, IsNextPart, told_in, all_told}
 use Rattle.clients.specs.Deeds as deed
+use Rattle.clients.proofs.ClientLemmas.{at_other, at_own, by_client}
 use Rattle.service.specs.Seen.{Whole}
 use Rattle.polling.specs.Peers.{Gave, Ended, Took, Stirred, Hands}
 use Rattle.polling.specs.Standing.{Standing, Owed, begun, rested, leaving, with_standing, stands_after, MayGo, Lost_piece}
 use Rattle.service.specs.Openings.{run_meaning, IsSettled}
 use Rattle.polling.specs.Serving.{Hall, hall, Terms, Settles, IsDueOf, gone_with, Occurs, Did, Stirs, Goes, Again, Proceeds, Begin, Then}
-use Rattle.polling.specs.Seating.{with_talk, ServesOne, HasMoved, gone_by, stands_by, replies_in}
+use Rattle.polling.specs.Seating.{with_talk, ServesOne, SeatsNow, HasMoved, gone_by, stands_by, replies_in}
 use Rattle.polling.specs.declared.step.Step.{Step}
 use Rattle.polling.specs.declared.step.Step.TheVariants as step
-use Rattle.polling.proofs.StandLemmas.{at_other, at_own, standing-own, begun_unowed}
+use Rattle.polling.proofs.StandLemmas.{standing-own, begun_unowed}
 
 -- what follows is done behind what was done
 pub serves_on :
@@ -54,6 +55,18 @@ pub with_talk-other :
     (client other : ℕ) (talk : Talk) (talks : ℕ → Talk) → other ≢ client →
     with_talk client talk talks other ≡ talks other
 with_talk-other client other talk talks differ = at_other client other talk talks differ
+
+-- what holds of the talk in one seat as it is now, and in all others as they were, holds of each now
+pub by_seat :
+    (P : ℕ → Talk → Type 0) (client : ℕ) (seat_now : Option Talk) (seats seats_now : ℕ → Option Talk) →
+    SeatsNow client seat_now seats seats_now →
+    ((talk : Talk) → seat_now ≡ Some talk → P client talk) →
+    ((other : ℕ) → other ≢ client → (talk : Talk) → seats other ≡ Some talk → P other talk) →
+    (each : ℕ) (talk : Talk) → seats_now each ≡ Some talk → P each talk
+by_seat P client seat_now seats seats_now now own others =
+    by_client (λ each. (talk : Talk) → seats_now each ≡ Some talk → P each talk) client
+    (λ talk is. own talk (sym now.0 ∙ is))
+    (λ other differ talk is. others other differ talk (sym (now.1 other differ) ∙ is))
 
 -- a deed of one client
 pub did_one :

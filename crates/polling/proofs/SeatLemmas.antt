@@ -11,8 +11,9 @@ use Rattle.polling.specs.Seating.{with_talk, ServesOne, SeatsNow, HadTurn, IsFol
 use Rattle.polling.specs.Ending.{IsToldAs}
 use Rattle.polling.specs.declared.step.Step.{Step}
 use Rattle.polling.specs.declared.step.Step.TheVariants as step
-use Rattle.polling.proofs.OneLemmas.{Stays, once, replies_both, with_talk-own, with_talk-other}
-use Rattle.polling.proofs.StandLemmas.{by_client, AllStand, EndsTurn, asked_ends, asked_kept, rested_ends, rested_kept}
+use Rattle.polling.proofs.OneLemmas.{Stays, by_seat, once, replies_both, with_talk-own, with_talk-other}
+use Rattle.clients.proofs.ClientLemmas.{by_client}
+use Rattle.polling.proofs.StandLemmas.{AllStand, EndsTurn, asked_ends, asked_kept, rested_ends, rested_kept}
 use Rattle.polling.proofs.StandLemmas.{one_stands, one_stands_on, after_stand, owes_none, owes_less, owes_then, owes_beside, owes_after, keeps_one, keeps_then, keeps_after}
 use Rattle.polling.proofs.AllLemmas.{free_seat, used, same_hall, keeps_peers, closes_all, serves_all}
 
@@ -78,24 +79,16 @@ module _ {S C P : Type 0} where
               moments = keeps.moments;
               peers = keeps.peers;
               seated =
-                  by_client
-                  (λ client. (talk : Talk) → seats_now client ≡ Some talk → first.room.talks client ≡ talk)
-                  next
-                  (λ talk is.
-                  keeps.unused next (omega arith)
-                  ∙ ap (λ seat. unwrap_or seat new_talk) (sym now.0 ∙ is))
-                  (λ other differ talk is. keeps.seated other talk (sym (now.1 other differ) ∙ is));
+                  by_seat (λ client talk. first.room.talks client ≡ talk) next (Some new_talk) seats seats_now now
+                  (λ talk is. keeps.unused next (omega arith) ∙ ap (λ seat. unwrap_or seat new_talk) is)
+                  (λ other differ. keeps.seated other);
               there =
-                  by_client
-                  (λ client. (talk : Talk) → seats_now client ≡ Some talk → first.gone client ≡ false)
-                  next (λ talk is. keeps.not_gone next (omega arith))
-                  (λ other differ talk is. keeps.there other talk (sym (now.1 other differ) ∙ is));
+                  by_seat (λ client talk. first.gone client ≡ false) next (Some new_talk) seats seats_now now
+                  (λ talk is. keeps.not_gone next (omega arith)) (λ other differ. keeps.there other);
               below =
-                  by_client (λ client. (talk : Talk) → seats_now client ≡ Some talk → client < next + 1) next
+                  by_seat (λ client talk. client < next + 1) next (Some new_talk) seats seats_now now
                   (λ talk is. omega arith)
-                  (λ other differ talk is.
-                  let before : other < next = keeps.below other talk (sym (now.1 other differ) ∙ is) in
-                  omega arith);
+                  (λ other differ talk is. let before : other < next = keeps.below other talk is in omega arith);
               unused = λ client (beyond : next + 1 ≤ client). keeps.unused client (omega arith);
               not_gone = λ client (beyond : next + 1 ≤ client). keeps.not_gone client (omega arith);
               stands =
@@ -127,25 +120,17 @@ module _ {S C P : Type 0} where
         moments = refl;
         peers = are;
         seated =
-            by_client
-            (λ other.
-            (seat : Talk) → seats_now other ≡ Some seat
-            → with_talk client talk_now talks other ≡ seat)
-            client
-            (λ seat is.
-            with_talk-own client talk_now talks
-            ∙ ap (λ found. unwrap_or found talk_now) (sym now.0 ∙ is))
+            by_seat (λ each seat. with_talk client talk_now talks each ≡ seat) client (Some talk_now) seats
+            seats_now now
+            (λ seat is. with_talk-own client talk_now talks ∙ ap (λ found. unwrap_or found talk_now) is)
             (λ other differ seat is.
-            with_talk-other client other talk_now talks differ
-            ∙ keeps.seated other seat (sym (now.1 other differ) ∙ is));
+            with_talk-other client other talk_now talks differ ∙ keeps.seated other seat is);
         there =
-            by_client (λ other. (seat : Talk) → seats_now other ≡ Some seat → first.gone other ≡ false)
-            client (λ seat is. keeps.there client talk was)
-            (λ other differ seat is. keeps.there other seat (sym (now.1 other differ) ∙ is));
+            by_seat (λ each seat. first.gone each ≡ false) client (Some talk_now) seats seats_now now
+            (λ seat is. keeps.there client talk was) (λ other differ. keeps.there other);
         below =
-            by_client (λ other. (seat : Talk) → seats_now other ≡ Some seat → other < next) client
-            (λ seat is. keeps.below client talk was)
-            (λ other differ seat is. keeps.below other seat (sym (now.1 other differ) ∙ is));
+            by_seat (λ each seat. each < next) client (Some talk_now) seats seats_now now
+            (λ seat is. keeps.below client talk was) (λ other differ. keeps.below other);
         unused =
             λ other beyond.
             with_talk-other client other talk_now talks

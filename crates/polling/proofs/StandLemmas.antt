@@ -1,10 +1,11 @@
 -- How clients stand, and what is owed to them.
-use Rattle.std.proofs.Common.{◌≡◌, ◌≢◌, ◌⊎◌, inl, inr, ⊎_elim, refl, ap, sym, ◌∙◌, subst, ℕ, false, List, [], ◌∷◌, ◌++◌, Option, nat_eq, if◌then◌else◌, arith}
+use Rattle.std.proofs.Common.{◌≡◌, ◌≢◌, ◌⊎◌, inl, inr, refl, ap, sym, ◌∙◌, subst, ℕ, false, List, [], ◌∷◌, ◌++◌, Option, arith}
 use Rattle.std.specs.List.{Contains}
-use Rattle.std.proofs.lemmas.Bool.{cases_eq, eq-eqb, ne_eqb, true≢false}
+use Rattle.std.proofs.lemmas.Bool.{true≢false}
 use Rattle.std.proofs.lemmas.List.Elements.{Contains-append_cases, Contains-append_left, Contains-append_right, Contains-push, Contains-push_cases}
 use Rattle.clients.specs.Deeds.{Act, client_of}
 use Rattle.clients.specs.Talk.{Talk}
+use Rattle.clients.proofs.ClientLemmas.{at_other, at_own, by_client}
 use Rattle.polling.specs.Peers.{Said}
 use Rattle.polling.specs.Standing.{Standing, Away, New, Awaited, Owed, Begun, Kept, Overdue, Leaving}
 use Rattle.polling.specs.Standing.{has_seat, greeted, woken, expired, begun, rested, asked}
@@ -13,27 +14,6 @@ use Rattle.polling.specs.Standing.{Debt, A_seat, A_turn, An_end, Owing, owing, t
 use Rattle.polling.specs.Standing.{AreSomeOf, OwesOnly, KeepsOnly}
 use Rattle.polling.specs.declared.peers.Told.{Told}
 use Rattle.polling.specs.declared.peers.Told.TheVariants.{Joined, Ready, Late, Nothing}
-
--- what holds of one client, and of all others, holds of each
-pub by_client :
-    (P : ℕ → Type 0) (client : ℕ) → P client → ((other : ℕ) → other ≢ client → P other) →
-    (each : ℕ) → P each
-by_client P client own others each =
-    ⊎_elim (λ (same : each ≡ client). subst P (sym same) own) (λ (other : each ≢ client). others each other)
-    (cases_eq each client)
-
--- what is otherwise for one client alone
-pub at_own :
-    {A : Type 0} (client : ℕ) (own : A) (others : ℕ → A) →
-    (if nat_eq client client then own else others client) ≡ own
-at_own client own others = ap (λ b. if b then own else others client) (eq-eqb client client refl)
-
-pub at_other :
-    {A : Type 0} (client other : ℕ) (own : A) (others : ℕ → A) → other ≢ client →
-    (if nat_eq client other then own else others other) ≡ others other
-at_other client other own others differ =
-    ap (λ b. if b then own else others other)
-    (ne_eqb client other (λ (same : client ≡ other). differ (sym same)))
 
 pub standing-own :
     (client : ℕ) (standing : Standing) (stands : ℕ → Standing) →

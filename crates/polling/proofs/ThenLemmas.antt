@@ -9,7 +9,8 @@ use Rattle.polling.specs.Seating.{with_talk, ServesOne, HasMoved, gone_by, stand
 use Rattle.polling.specs.Steps.{WritesAlone}
 use Rattle.polling.specs.declared.step.Step.{Step}
 use Rattle.polling.specs.declared.step.Step.TheVariants as step
-use Rattle.polling.proofs.StandLemmas.{by_client, standing-own, standing-other, begun_unowed, after-append}
+use Rattle.clients.proofs.ClientLemmas.{by_client}
+use Rattle.polling.proofs.StandLemmas.{standing-own, standing-other, begun_unowed, after-append}
 use Rattle.polling.proofs.OneLemmas.{serves_on, replies_both, Stays}
 
 -- it stays so

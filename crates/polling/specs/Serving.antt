@@ -11,7 +11,7 @@ use Rattle.service.specs.Seen.{SeenAt, Whole, seen}
 use Rattle.clients.specs.Answering.{IsWanting}
 use Rattle.clients.specs.Talk.{Talk, new_talk}
 use Rattle.clients.specs.Deeds.{Room, Act, Came, Ended, Replied, Continued, Wrote, client_of, IsActed, Lives}
-use Rattle.clients.specs.Deeds as life
+use Rattle.service.specs.InTurn.{Nothing, More, events_along}
 use Rattle.polling.specs.Peers.{Doing, Asked, Said, Hands}
 use Rattle.polling.specs.Standing.{Standing, Awaited, has_seat, rested, leaving, with_standing, stands_behind, stands_after, MayGo, MayStir}
 use Rattle.polling.specs.Kinds.{IsPutOff}
@@ -146,15 +146,15 @@ module _ {S C : Type 0} {t : LedgersMeaning S} {gives : C → ℕ → C → Type
 
   abbrev pub events_of :
       {first last : Room S C} {deeds : List Act} → Lives S C t gives first deeds last → List Event
-  events_of life.Begin = []
-  events_of (life.Then deeds last deed next lives done) = events_of lives ++ events_by deed done
+  events_of =
+      events_along {Steps = IsActed t gives} (λ old deed new done. events_by deed done)
 
   -- nothing is done but that clients are told so
   abbrev pub AreToldUnavailable :
       {first last : Room S C} {deeds : List Act} → (ℕ → Bool) → Lives S C t gives first deeds last
       → Type 0
-  AreToldUnavailable gone life.Begin = Unit {0}
-  AreToldUnavailable gone (life.Then deeds last deed next lives done) =
+  AreToldUnavailable gone Nothing = Unit {0}
+  AreToldUnavailable gone (More deeds last deed next lives done) =
       AreToldUnavailable gone lives × IsToldUnavailable gone deed
 
 -- a deed of a client in its turn, with what peers did of it; peers tell something, and are handed a

@@ -58,8 +58,7 @@ pub(crate) fn share_round<L: Rounds, H: Steward<L>, C: Moments, P: Peers>(
         }
         Err(why) => match why {
             Unavailable::Disk => tell_all::<L, H, C, P>(clients, &round),
-            Unavailable::Memory => 0,
-            Unavailable::Size => 0,
+            Unavailable::Memory | Unavailable::Size => 0,
         },
     }
 }

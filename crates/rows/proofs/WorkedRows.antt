@@ -8,7 +8,8 @@ use Rattle.records.specs.TransferVerdict.{transfer_verdict}
 use Rattle.records.specs.Chains.{chains_of, trial_of, chain_results, after_chain, chains_results, after_chains}
 use Rattle.records.specs.Step.{account_verdict_in, after_account, transfer_verdict_in, after_transfer, step_machine}
 use Rattle.rows.specs.Prescribed.{rows_for}
-use Rattle.rows.proofs.Samples.{HasRows, transfer_event, post, base, after, base_accounts, transfer, sums, balance, status, history}
+use Rattle.rows.proofs.Samples.{HasRows, transfer_event, base, after, base_accounts, balance, status, history}
+use Rattle.samples.specs.Events.{post, accepted_transfer as transfer, balances as sums}
 
 -- the base: four accounts, and no balance yet
 pub base_rows : HasRows base (record {

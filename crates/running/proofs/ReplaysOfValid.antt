@@ -4,16 +4,16 @@ use Rattle.std.specs.List.{All}
 use Rattle.std.specs.List.Sorted.{IsPermutation, IsSortedByKey}
 use Rattle.std.specs.Ordering.{nat_cmp}
 use Rattle.std.proofs.lemmas.List.{map-append}
-use Rattle.std.proofs.lemmas.List.Elements.{All-nil, All-append, All-map, All-weaker}
+use Rattle.std.proofs.lemmas.List.Elements.{All-nil, All-append, All-map}
 use Rattle.std.proofs.lemmas.List.Sorted.{IsPermutation-refl, IsPermutation-sym, IsPermutation-trans, IsPermutation-cons, IsPermutation-middle, IsPermutation-to_front, IsPermutation-append_left, All-permutation}
 use Rattle.records.specs.declared.account.Account.{Account}
 use Rattle.records.specs.declared.transfer.Transfer.{Transfer}
 use Rattle.records.specs.Machine.{Machine, new_machine, with_id}
 use Rattle.records.specs.Step.{account_verdict_in, at_clock}
 use Rattle.records.specs.Valid.{IsValid, IsNextTimestamp, IsNextAccount, IsNextTransfer, IsNextFailed, with_account, with_transfer}
-use Rattle.records.specs.EntryByEntry.{AreFailedApart, IsAccountGiven, IsTransferGiven, IsValidEntryByEntry}
+use Rattle.records.specs.EntryByEntry.{AreFailedApart}
 use Rattle.engine.specs.EntryLaws.{ValidExactlyEntryByEntry}
-use Rattle.engine.proofs.ValidMachineLemmas.{clock_bound}
+use Rattle.engine.proofs.ValidMachineLemmas.{beside_others, clock_bound}
 use Rattle.rows.specs.Tables.{IsAscendingBy}
 use Rattle.running.specs.declared.entry.Entry.{Entry}
 use Rattle.running.specs.declared.entry.Entry.TheVariants.{Opened, Moved}
@@ -168,27 +168,8 @@ built n (IsValid.next_transfer m t valid next) none = with_moved m t valid none 
 built n (IsValid.next_failed m id valid next) none = absurd (one_failed id m.failed none)
 
 -- a valid machine is so with other failed ids that are apart from its entries
-pub with_other_failed : (m : Machine) (ids : List ℕ) → IsValidEntryByEntry m → AreFailedApart (record m { failed = ids }) → IsValidEntryByEntry (record m { failed = ids })
-with_other_failed m ids v apart =
-    let n : Machine = record m { failed = ids } in
-    record {
-      widths = record { accounts = v.widths.accounts; transfers = v.widths.transfers };
-      timestamps = record {
-        positive_accounts = v.timestamps.positive_accounts;
-        positive_transfers = v.timestamps.positive_transfers;
-        accounts_rise = v.timestamps.accounts_rise;
-        transfers_rise = v.timestamps.transfers_rise;
-        apart = v.timestamps.apart;
-      };
-      batches = record { from = v.batches.from; short = v.batches.short; never_fall = v.batches.never_fall };
-      clock = record { accounts = v.clock.accounts; transfers = v.clock.transfers; batches = v.clock.batches; bounded = v.clock.bounded };
-      failed = apart;
-      accounts = All-weaker (IsAccountGiven m) (IsAccountGiven n) (λ a h. record { accepted = h.accepted }) m.accounts v.accounts;
-      transfers = All-weaker (IsTransferGiven m) (IsTransferGiven n) (λ t h. record { accepted = h.accepted; stored = h.stored }) m.transfers v.transfers;
-    }
-
 pub failed_apart : ValidExactlyEntryByEntry → FailedIdsStandApart
-failed_apart given m ids valid apart = (given (record m { failed = ids })).1 (with_other_failed m ids ((given m).0 valid) apart)
+failed_apart given m ids valid apart = let v = (given m).0 valid in (given (record m { failed = ids })).1 (beside_others m m.clock ids v (omega arith) v.clock.bounded apart)
 
 -- so it is without any
 abbrev unfailed : Machine → Machine

@@ -1,8 +1,11 @@
 -- Accounts and transfers in the fewest words: what a word does not name is 0.
 use Rattle.std.specs.Prelude.{ℕ}
+use Rattle.records.specs.declared.account.Account.{Account}
 use Rattle.records.specs.declared.account.AccountEvent.{AccountEvent}
+use Rattle.records.specs.declared.transfer.Transfer.{Transfer}
 use Rattle.records.specs.declared.transfer.TransferEvent.{TransferEvent}
 use Rattle.records.specs.declared.balances.Balances.{Balances}
+use Rattle.records.specs.StoredRecord.{stored_account}
 
 -- an account of ledger 7 and code 10 with these flags
 abbrev pub account : ℕ → ℕ → AccountEvent
@@ -20,6 +23,10 @@ account id flags = record {
   flags = record { 0 = flags };
   timestamp = 0;
 }
+
+-- that account, opened at this timestamp
+abbrev pub opened_account : ℕ → ℕ → ℕ → Account
+opened_account id flags timestamp = stored_account (account id flags) timestamp
 
 -- a transfer of ledger 7 and code 1 from a debit account to a credit account
 abbrev pub transfer : ℕ → ℕ → ℕ → ℕ → TransferEvent
@@ -51,6 +58,25 @@ post id pending amount =
 -- a void of a pending transfer
 abbrev pub void : ℕ → ℕ → ℕ → TransferEvent
 void id pending amount = with 8 (post id pending amount)
+
+-- a transfer with these flags from account 1 to account 2, as it is stored
+abbrev pub accepted_transfer : ℕ → ℕ → ℕ → ℕ → ℕ → ℕ → Transfer
+accepted_transfer id pending amount flags timestamp at = record {
+  id = id;
+  debit_account_id = 1;
+  credit_account_id = 2;
+  amount = amount;
+  pending_id = pending;
+  user_data_128 = 0;
+  user_data_64 = 0;
+  user_data_32 = 0;
+  timeout = 0;
+  ledger = 7;
+  code = 1;
+  flags = record { 0 = flags };
+  timestamp = timestamp;
+  at = at;
+}
 
 -- balances of these sums: of debits pending and posted, and of credits
 abbrev pub balances : ℕ → ℕ → ℕ → ℕ → Balances

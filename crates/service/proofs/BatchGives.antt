@@ -1,7 +1,6 @@
 -- Batches that were run, or not.
 use Rattle.std.proofs.Common.{◌≡◌, ℕ, List, Option, Some, Result, Ok, Err, refl, sym, ap, ◌∙◌}
-use Rattle.std.proofs.Common.{Global}
-use Rattle.std.specs.declared.vec.Vec.{Vec}
+use Rattle.records.specs.declared.reply.BatchReply.{BatchReply}
 use Rattle.records.specs.declared.reply.BatchReply.TheVariants.{Done, ClockExhausted}
 use Rattle.records.specs.declared.reply.EventResult.{EventResult}
 use Rattle.records.specs.Machine.{Machine}
@@ -10,17 +9,14 @@ use Rattle.records.specs.Step.{Answered, Exhausted, IsReply}
 use Rattle.chain.specs.declared.ledgers.BatchFault.{BatchFault}
 use Rattle.chain.specs.declared.ledgers.BatchFault.TheVariants as fault
 use Rattle.chain.specs.Ledgers.{Tenants, IsRun}
-use Rattle.ledger_http.specs.declared.content_type.ContentType.{ContentType}
-use Rattle.ledger_http.specs.declared.refusal.Refusal.TheVariants as refusal
+use Rattle.ledger_http.specs.declared.content_type.ContentType.TheVariants.{Json}
 use Rattle.ledger_http.specs.declared.reply.Reply.{Reply}
-use Rattle.ledger_http.specs.declared.reply.Reply.TheVariants.{Fixed}
 use Rattle.ledger_http.specs.ReplyText.{body_text, reply_text}
 use Rattle.wire.specs.declared.outcome.Outcome.{Outcome}
-use Rattle.wire.specs.declared.outcome.Outcome.TheVariants.{Refused}
 use Rattle.wire.specs.declared.request.Request.{Request}
 use Rattle.wire.specs.Told.{outcome_text}
 use Rattle.service.specs.Served.{batch_told, told_by, left_by, served_to}
-use Rattle.service.specs.Replies.{Serves, Gives, batch_reply}
+use Rattle.service.specs.Replies.{Serves, Gives, TellsBatch, batch_reply}
 use Rattle.service.proofs.Texts.{is_available}
 
 pub serves_by_batch :
@@ -60,44 +56,29 @@ serves_by_batch request moment digest old new (Err fault.UnknownKey) unknown = r
 serves_by_batch request moment digest old new (Err (fault.Unavailable why)) keeps =
     record { answered = λ ne. absurd (ne refl); same = λ is. keeps }
 
--- results are told as they are shown
-pub done_told :
-    {R : Type 0} (shows : ℕ → List (EventResult R) → Outcome) (clock : ℕ)
-    (results : Vec (EventResult R) Global) (items : List (EventResult R))
-    (outcome : step.Outcome R) → IsReply (Done clock results) outcome → items ≡ results.items →
-    shows clock items ≡ batch_told shows outcome
-done_told shows clock results items (Answered told stamps) reply is =
-    ap (λ (c : ℕ). shows c items) reply.0 ∙ ap (shows told) (is ∙ reply.1)
-done_told shows clock results items Exhausted reply is = absurd reply
-
-exhausted_told :
-    {R : Type 0} (shows : ℕ → List (EventResult R) → Outcome) (outcome : step.Outcome R) →
-    IsReply ClockExhausted outcome → Refused refusal.ClockExhausted ≡ batch_told shows outcome
-exhausted_told shows (Answered told stamps) reply = absurd reply
-exhausted_told shows Exhausted reply = refl
-
--- work that shows what is told, with a body
-pub gives_shown :
-    (request : Request) (moment : ℕ) (m after : Machine) (reply : Reply) (shown : Outcome)
-    (kind : ContentType) (body : List ℕ) →
-    reply_text reply ≡ outcome_text shown → outcome_text shown ≡ body_text kind body →
-    shown ≡ told_by m moment request → after ≡ left_by m moment request →
+-- work that tells what became of a batch, whose results are told with a body
+pub gives_batch :
+    {R : Type 0} (shows : ℕ → List (EventResult R) → Outcome) (batch : BatchReply R) (outcome : step.Outcome R)
+    (request : Request) (moment : ℕ) (m after : Machine) (reply : Reply) →
+    ((clock : ℕ) (results : List (EventResult R)) →
+    (body : List ℕ) × (outcome_text (shows clock results) ≡ body_text Json body)) →
+    IsReply batch outcome → TellsBatch shows batch reply →
+    batch_told shows outcome ≡ told_by m moment request → after ≡ left_by m moment request →
     Gives request moment m reply after
-gives_shown request moment m after reply shown kind body text is_body told left = record {
-  text = text ∙ ap outcome_text told;
+gives_batch shows (Done clock results) (Answered then stamps) request moment m after reply bodies is shown told left =
+    let text =
+    shown ∙ ap outcome_text (ap (λ (c : ℕ). shows c results.items) is.0 ∙ ap (shows then) is.1) in
+    record {
+      text = text ∙ ap outcome_text told;
+      left = left;
+      available = is_available Json (bodies then stamps).0 reply (text ∙ (bodies then stamps).1);
+    }
+gives_batch shows ClockExhausted Exhausted request moment m after reply bodies is shown told left = record {
+  text = ap reply_text shown ∙ ap outcome_text told;
   left = left;
-  available = is_available kind body reply (text ∙ is_body);
+  available = λ u. absurd (let e = sym shown ∙ u in cc);
 }
-
--- work that finds that the clock has come to its end
-pub gives_exhausted :
-    {R : Type 0} (shows : ℕ → List (EventResult R) → Outcome) (outcome : step.Outcome R)
-    (request : Request) (moment : ℕ) (m after : Machine) →
-    told_by m moment request ≡ batch_told shows outcome → IsReply ClockExhausted outcome →
-    after ≡ left_by m moment request →
-    Gives request moment m (Fixed refusal.ClockExhausted) after
-gives_exhausted shows outcome request moment m after told reply left = record {
-  text = ap outcome_text (exhausted_told shows outcome reply ∙ sym told);
-  left = left;
-  available = λ is. cc;
-}
+gives_batch shows (Done clock results) Exhausted request moment m after reply bodies is shown told left =
+    absurd is
+gives_batch shows ClockExhausted (Answered then stamps) request moment m after reply bodies is shown told left =
+    absurd is

@@ -1,30 +1,35 @@
 -- Requests that are served over the ledgers, by batches and by reads.
-use Rattle.std.proofs.Common.{◌≡◌, ◌≢◌, ◌∙◌, true, ℕ, List, Result, Ok, Err, IfSome, sym, ap, subst}
+use Rattle.std.proofs.Common.{◌≡◌, ◌∙◌, true, ℕ, List, Result, Ok, Err, IfSome, sym, ap, subst}
 use Rattle.records.specs.Machine.{Machine}
-use Rattle.records.specs.declared.unavailable.Unavailable.{Unavailable}
 use Rattle.records.specs.declared.unavailable.Unavailable.TheVariants.{Disk}
 use Rattle.chain.specs.declared.ledgers.BatchFault.{BatchFault}
 use Rattle.chain.specs.declared.ledgers.BatchFault.TheVariants as batch
 use Rattle.chain.specs.declared.reads.ReadFault.{ReadFault}
-use Rattle.chain.specs.declared.reads.ReadFault.TheVariants as fault
 use Rattle.chain.specs.Ledgers.{LedgersMeaning, IsRun, Finds, IsAnswered, LeadsBy}
-use Rattle.chain.specs.LedgerReads.{IsTold, ReadsTenant}
+use Rattle.chain.specs.LedgerReads.{IsShown, ReadsTenant, seen_in}
 use Rattle.ledger_http.specs.declared.refusal.Refusal.{Refusal}
 use Rattle.ledger_http.specs.declared.reply.Reply.{Reply}
-use Rattle.ledger_http.specs.ReplyText.{reply_text}
 use Rattle.wire.specs.declared.outcome.Outcome.{Outcome}
 use Rattle.wire.specs.declared.request.Request.{Request}
-use Rattle.wire.specs.Told.{outcome_text}
 use Rattle.service.specs.declared.begun.Begun.{Begun}
 use Rattle.service.specs.Begun.{IsLeftOf, whole}
 use Rattle.service.specs.Calls.{BeginsOver, ServesOver}
-use Rattle.service.specs.Reading.{ShowsOutcome, ShowsTo}
-use Rattle.service.specs.Replies.{Gives, Serves, batch_reply, unavailable}
+use Rattle.service.specs.Reading.{BeginsRead}
 use Rattle.service.specs.Served.{left_by}
+use Rattle.service.specs.Replies.{Gives, Serves, batch_reply}
 use Rattle.service.proofs.BatchGives.{serves_by_batch}
 use Rattle.service.proofs.BegunLemmas.{finds_whole, serves_whole}
 use Rattle.service.proofs.FindingLemmas.{finds_by_batch, finds_by_read}
 use Rattle.service.proofs.ServedReads.{serves_by_read}
+use Rattle.service.proofs.ShownReads.{Reading, tells_by, told_seen}
+
+-- what is asked is what begins to be answered
+pub begins_as_asked :
+    {S : Type 0} {t : LedgersMeaning S} {digest : List ℕ} {asked request : Request} {moment : ℕ} {old new : S}
+    {begun : Begun} → asked ≡ request → BeginsOver t digest (Ok request) moment old new begun →
+    BeginsOver t digest (Ok asked) moment old new begun
+begins_as_asked {t} {digest} {moment} {old} {new} {begun} is begins =
+    subst (λ (r : Request). BeginsOver t digest (Ok r) moment old new begun) (sym is) begins
 
 -- a batch
 pub batch_serves :
@@ -68,23 +73,21 @@ begins_served t digest asked meaning moment old new reply begun is whole_is over
 
 -- a read, as a reply that is begun
 pub begins_read :
-    {S : Type 0} (t : LedgersMeaning S) (digest : List ℕ) (asked request : Request) (moment : ℕ) (old new : S)
-    (read : Result Outcome ReadFault) (reply : Reply) (begun : Begun) → asked ≡ request →
-    ((m : Machine) → left_by m moment request ≡ m) → begun ≡ whole reply →
-    ReadsTenant t digest (ShowsTo request) old new read →
-    ((told : Outcome) → ShowsOutcome told read → reply ≢ unavailable → reply_text reply ≡ outcome_text told) →
-    (reply ≢ unavailable → IsTold read) →
-    ((why : Unavailable) → read ≡ Err (fault.Unavailable why) → reply ≡ unavailable) →
-    BeginsOver t digest (Ok asked) moment old new begun
-begins_read t digest asked request moment old new read reply begun is same whole_is reads shows told failed =
-    record {
-      serves = λ live.
-          serves_whole (t.tenants old) (t.tenants new) digest (Ok asked) moment reply begun whole_is
-          (serves_by_read (t.tenants old) (t.tenants new) digest asked request moment reply is same
-          (reads.reads.same live) (λ ne. shows _ (reads.told live moment) ne));
-      failed = λ has. whole_is ∙ ap whole (failed Disk (reads.failed has));
-      finds = finds_whole t old new _ reply begun whole_is
-          (finds_by_read t old new asked request moment digest _ _ is same told reads.finds);
-      left = none_left t old new reply begun whole_is;
-      follows = reads.reads.follows;
-    }
+    {S A X : Type 0} {t : LedgersMeaning S} {digest : List ℕ} {asked : Request} {moment : ℕ} {old new : S}
+    {Shows : X → Outcome → Type 0} {read : Result X ReadFault} {begun : Begun} (r : Reading A X) →
+    asked ≡ r.request → ((m : Machine) → left_by m moment r.request ≡ m) →
+    ((found : X) (outcome : Outcome) → Shows found outcome → outcome ≡ told_seen r.shows (Ok (r.sees found))) →
+    ReadsTenant t digest (λ tenant. IsShown r.sees (seen_in r.answers tenant)) old new read →
+    BeginsRead Shows read begun → BeginsOver t digest (Ok asked) moment old new begun
+begins_read {t} {digest} {asked} {moment} {old} {new} {Shows} {read} {begun} r is same so reads begins = record {
+  serves = λ live.
+      serves_whole (t.tenants old) (t.tenants new) digest (Ok asked) moment begins.reply begun begins.is
+      (serves_by_read (t.tenants old) (t.tenants new) digest asked r.request moment begins.reply is
+      same (reads.reads.same live)
+      (begins.text _ (tells_by r moment Shows so _ read (reads.told live))));
+  failed = λ has. begins.is ∙ ap whole (begins.failed Disk (reads.failed has));
+  finds = finds_whole t old new _ begins.reply begun begins.is
+      (finds_by_read t old new asked r.request moment digest _ _ is same begins.told reads.finds);
+  left = none_left t old new begins.reply begun begins.is;
+  follows = reads.reads.follows;
+}

@@ -5,11 +5,12 @@ use Rattle.chain.specs.Ledgers.{LedgersMeaning, Tenants}
 use Rattle.ledger_http.specs.declared.reply.Reply.{Reply}
 use Rattle.ledger_http.specs.Question.{asked_of}
 use Rattle.service.specs.Connections.{Connection, IsFirstAnswered, IsTurnedAway, LacksMemory}
-use Rattle.service.specs.Connections.{IsCutOff, Nothing, More}
+use Rattle.service.specs.Connections.{IsCutOff}
 use Rattle.service.specs.Courses.{Event, Replied, Happens, Course, Begin, Then}
 use Rattle.service.specs.Courses.{ResponsesHappen}
 use Rattle.service.specs.ConnectionEvents.{event_in, events_in, ExchangesLeadOn}
 use Rattle.service.specs.ConnectionEvents.{ConnectionsAreCourses}
+use Rattle.service.specs.InTurn.{Nothing, More}
 use Rattle.service.specs.ExchangeLaws.{HeadsAreUnique, answers_asked, live_before}
 
 -- a response is what happens
@@ -24,10 +25,10 @@ responses_happen unique old new bytes moment reply event to r =
 
 cut_off :
     {S C : Type 0} (t : LedgersMeaning S) (first : Tenants) (events : List Event)
-    (old new : Connection S C) →
-    Course first events (t.tenants old.ledgers) → IsCutOff old new →
+    (Holds : List ℕ → Type 0) (most : List ℕ → ℕ) (old new : Connection S C) →
+    Course first events (t.tenants old.ledgers) → IsCutOff Holds most old new →
     Course first (events ++ []) (t.tenants new.ledgers)
-cut_off t first events old new course cut =
+cut_off t first events Holds most old new course cut =
     subst (λ (es : List Event). Course first es (t.tenants new.ledgers)) (sym (append-nil events))
     (subst (λ ledgers. Course first events (t.tenants ledgers)) (sym cut.ledgers) course)
 
@@ -47,9 +48,9 @@ one_more t gives unique first events old new reply (inl answered) live course =
     (record { head = head; has = answered.early.has; is = refl; whole = answered.early.whole })
     (answered.responds live))
 one_more t gives unique first events old new reply (inr (inl away)) live course =
-    cut_off t first events old new course away.cut
+    cut_off t first events _ _ old new course away.cut
 one_more t gives unique first events old new reply (inr (inr lacks)) live course =
-    cut_off t first events old new course lacks.cut
+    cut_off t first events _ _ old new course lacks.cut
 
 pub exchanges_lead_on :
     {S C : Type 0} (t : LedgersMeaning S) (gives : C → ℕ → C → Type 0) → HeadsAreUnique →

@@ -1,7 +1,7 @@
 -- Replies, one after the other.
 use Rattle.std.specs.Prelude.{OnOk, OnErr}
 use Rattle.std.proofs.lemmas.Bool.{true≢false}
-use Rattle.std.proofs.Common.{true, false, Result, Ok, Err, is_err, ◌≡◌, ℕ, ◌+◌, List, [], ◌∷◌}
+use Rattle.std.proofs.Common.{drop, Bool, true, false, Result, Ok, Err, is_err, ◌≡◌, ℕ, ◌+◌, List, [], ◌∷◌}
 use Rattle.std.proofs.Common.{◌++◌, Option, Some, None, refl, sym, ap, ◌∙◌, subst, arith}
 use Rattle.std.proofs.Common.{append_assoc, length-append}
 use Rattle.std.proofs.lemmas.List.{append-nil}
@@ -10,7 +10,8 @@ use Rattle.std.proofs.KnownBytes.{Appends-trans}
 use Rattle.chain.specs.Ledgers.{LedgersMeaning}
 use Rattle.ledger_http.specs.declared.reply.Reply.{Reply}
 use Rattle.ledger_http.specs.ReplyText.{reply_text}
-use Rattle.service.specs.Connections.{Connection, Exchange, Nothing, More, HasReplied, texts_of}
+use Rattle.service.specs.Connections.{Connection, Exchange, HasReplied, IsCutOff, connection, texts_of}
+use Rattle.service.specs.InTurn.{Nothing, More}
 
 texts_more : (replies : List Reply) (reply : Reply) →
     texts_of (replies ++ reply ∷ []) ≡ texts_of replies ++ reply_text reply
@@ -27,6 +28,21 @@ stays_ended None new ended = tt
 stays_ended (Some bytes) None ended = absurd (let none = (ended bytes refl).1 in cc)
 stays_ended (Some bytes) (Some rest) ended =
     let here = ended bytes refl in let left : rest ≡ [] = (let is = here.1 in cc) in left ∙ sym here.0
+
+-- a connection that ends, whose reader took so much of what was unread
+pub cut_off_behind :
+    {S C : Type 0} (Holds : List ℕ → Type 0) (most : List ℕ → ℕ) (ledgers : S) (unread unread_now : Option (List ℕ))
+    (moments : C) (goes_on : Bool) →
+    ((bytes : List ℕ) → unread ≡ Some bytes → Holds bytes × (unread_now ≡ Some (drop (most bytes) bytes))) →
+    goes_on ≡ false →
+    IsCutOff Holds most (connection ledgers unread moments true) (connection ledgers unread_now moments goes_on)
+cut_off_behind Holds most ledgers unread unread_now moments goes_on first ends = record {
+  first = λ bytes known. (first bytes known).0;
+  taken = λ bytes known. (most bytes, omega arith, (first bytes known).1);
+  ledgers = refl;
+  moments = refl;
+  ends = ends;
+}
 
 unwritten : (written : Option (List ℕ)) → Appends written written []
 unwritten None = tt

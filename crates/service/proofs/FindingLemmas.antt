@@ -1,20 +1,13 @@
 -- What may be found after a request.
 use Rattle.std.proofs.Common.{◌≡◌, ◌≢◌, ◌⊎◌, inl, inr, ℕ, List, Option, Some, Result, Ok, Err, refl}
 use Rattle.std.proofs.Common.{sym, ap, ◌∙◌, subst}
-use Rattle.std.specs.Result.{IsErrAnd}
 use Rattle.records.specs.Machine.{Machine}
 use Rattle.chain.specs.declared.ledgers.BatchFault.{BatchFault}
 use Rattle.chain.specs.declared.ledgers.BatchFault.TheVariants as batch
-use Rattle.chain.specs.declared.reads.ReadFault.{ReadFault}
-use Rattle.chain.specs.declared.reads.ReadFault.TheVariants as fault
-use Rattle.chain.specs.LedgerReads.{IsTold}
 use Rattle.chain.specs.Ledgers.{Tenants, LedgersMeaning, KeepsAll, Finds, IsAnswered, LeadsBy}
 use Rattle.ledger_http.specs.declared.reply.Reply.{Reply}
-use Rattle.ledger_http.specs.declared.reply.Reply.TheVariants.{Fixed}
-use Rattle.wire.specs.declared.outcome.Outcome.{Outcome}
 use Rattle.wire.specs.declared.request.Request.{Request}
 use Rattle.service.specs.Served.{left_by, served_to}
-use Rattle.service.specs.Reading.{refusal_of}
 use Rattle.service.specs.Deeds.{Asked, IsDeedDone}
 use Rattle.service.specs.Replies.{Gives, batch_reply, unavailable}
 use Rattle.service.proofs.ServedReads.{left_alone}
@@ -100,18 +93,3 @@ pub finds_by_read :
 finds_by_read t old new asked request moment digest A B is same answered =
     finds_on t old new A B KeepsAll (IsDeedDone (Asked digest (Ok asked) moment)) answered
     (kept_left digest asked request moment is same)
-
--- a read that fails as another one did
-pub told_on :
-    {A : Type 0} (B : Type 0) (result : Result A ReadFault) (why : ReadFault) →
-    IsErrAnd result (λ fault. fault ≡ why) → IsTold result → IsTold {A = B} (Err why)
-told_on B (Ok answer) why is told = absurd is
-told_on B (Err f) why is told = subst (λ (f : ReadFault). IsTold {A = B} (Err f)) is told
-
-pub fault_told :
-    (why : ReadFault) → Fixed (refusal_of why) ≢ unavailable → IsTold {A = Outcome} (Err why)
-fault_told fault.UnknownKey available = tt
-fault_told (fault.Unavailable why) available = available refl
-fault_told fault.NoAccount available = tt
-fault_told fault.NoHistory available = tt
-fault_told (fault.Sink why) available = available refl

@@ -1,26 +1,13 @@
 -- A statement that is read to its end, part by part.
-use Rattle.std.proofs.Common.{◌≡◌, ◌⊎◌, ◌∙◌, refl, ℕ, inl, inr, List, [], Some, ◌++◌, Option, ap, subst, append_assoc}
+use Rattle.std.proofs.Common.{◌≡◌, ◌∙◌, refl, ℕ, inl, inr, List, [], Some, ◌++◌, Option, ap, subst, append_assoc}
 use Rattle.records.specs.Machine.{Machine}
 use Rattle.chain.specs.LedgerReads.{ReadsOnly}
 use Rattle.chain.specs.Ledgers.{Tenants, LedgersMeaning, Finds, KeepsAll}
+use Rattle.chain.proofs.StatementPieces.{HasRead}
 use Rattle.parts.specs.Parts.{IsPart, chunks_left}
 use Rattle.parts.proofs.LeftLemmas.{part_left}
 use Rattle.parts.specs.declared.rest.Part.{Part}
 use Rattle.parts.specs.declared.rest.Rest.{Rest}
-
--- reads, one behind the other, and what may be found behind them
-pub record HasRead {S : Type 0} (t : LedgersMeaning S) (old new : S) : Type 0 where
-  pub same : t.is_live new → KeepsAll (t.tenants old) (t.tenants new)
-  pub follows : t.follows old new
-  pub found : (found : Tenants) → t.may_find new found → t.may_find old found ⊎ (t.is_live old × KeepsAll (t.tenants old) found)
-
-pub as_reads : {S : Type 0} (t : LedgersMeaning S) (old new : S) → HasRead t old new → ReadsOnly t old new
-as_reads t old new read = record { same = read.same; follows = read.follows }
-
-pub as_finds :
-    {S : Type 0} (t : LedgersMeaning S) (old new : S) (A : Type 0) → HasRead t old new →
-    (A → (found : Tenants) → t.may_find new found → t.is_live new) → Finds t A KeepsAll old new
-as_finds t old new A read live = record { found = read.found; live = live }
 
 pub none_read :
     {S : Type 0} (t : LedgersMeaning S) (a : S) → t.follows a a → HasRead t a a

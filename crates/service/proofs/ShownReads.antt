@@ -1,20 +1,25 @@
 -- What reads tell.
-use Rattle.std.specs.Result.{IsErrAnd}
-use Rattle.std.proofs.Common.{subst, ◌≡◌, ℕ, List, Option, Some, None, Result, Ok, Err, refl, sym}
+use Rattle.std.proofs.Common.{subst, ◌≡◌, ◌≢◌, ℕ, List, Option, Some, None, Result, Ok, Err, refl, sym}
 use Rattle.std.proofs.Common.{ap, ◌∙◌}
-use Rattle.records.specs.declared.unavailable.Unavailable.TheVariants.{Disk}
 use Rattle.records.specs.Machine.{Machine}
 use Rattle.records.specs.Reads.{AccountAnswer, NoAccount, NoHistory, Found}
+use Rattle.chain.specs.declared.reads.QueryPage.{QueryPage}
 use Rattle.chain.specs.declared.reads.ReadFault.{ReadFault}
 use Rattle.chain.specs.declared.reads.ReadFault.TheVariants as fault
-use Rattle.chain.specs.Ledgers.{LedgersMeaning}
-use Rattle.chain.specs.LedgerReads.{ReadsTenant, Seen, seen_by, seen_in, IsShown}
+use Rattle.chain.specs.LedgerReads.{IsShown, IsTold, Seen, seen_by, seen_in}
+use Rattle.ledger_http.specs.declared.reply.Reply.{Reply}
+use Rattle.ledger_http.specs.declared.reply.Reply.TheVariants.{Fixed}
+use Rattle.ledger_http.specs.ReplyText.{reply_text}
+use Rattle.wire.specs.declared.outcome.Entries.{Entries}
 use Rattle.wire.specs.declared.outcome.Outcome.{Outcome}
-use Rattle.wire.specs.declared.outcome.Outcome.TheVariants.{Refused}
+use Rattle.wire.specs.declared.outcome.Outcome.TheVariants.{Page, Refused}
 use Rattle.wire.specs.declared.request.Request.{Request}
-use Rattle.service.specs.Served.{told_by, answer_told, served_to}
-use Rattle.service.specs.Reading.{ShowsOutcome, ShowsTo, refusal_of}
-use Rattle.service.proofs.FindingLemmas as finding
+use Rattle.wire.specs.Told.{outcome_text}
+use Rattle.service.specs.declared.begun.Begun.{Begun}
+use Rattle.service.specs.Begun.{whole}
+use Rattle.service.specs.Reading.{BeginsRead, ShowsPage, TellsBy, refusal_of}
+use Rattle.service.specs.Replies.{unavailable}
+use Rattle.service.specs.Served.{answer_told, served_to, told_by}
 
 -- how a request for a read is answered: what is asked of the machine, how that is shown, and what a
 -- caller of the ledgers sees it in
@@ -52,57 +57,69 @@ module _ {A X : Type 0} (r : Reading A X) (moment : ℕ) where
       (served_to tenant (Ok r.request) moment).told ≡ told_seen r.shows seen
   told_as_seen tenant seen is = told_so tenant ∙ ap (told_seen r.shows) is
 
-  -- a fault of the tenant is told
-  told_as_fault :
-      (tenant : Option Machine) (why : ReadFault) →
-      IsShown r.sees (seen_in r.answers tenant) (Err why) →
-      ShowsOutcome (served_to tenant (Ok r.request) moment).told (Err why)
-  told_as_fault tenant fault.UnknownKey is = λ ne. told_as_seen tenant (Err fault.UnknownKey) is
-  told_as_fault tenant (fault.Unavailable why) is = λ ne. absurd (ne refl)
-  told_as_fault tenant fault.NoAccount is = λ ne. told_as_seen tenant (Err fault.NoAccount) is
-  told_as_fault tenant fault.NoHistory is = λ ne. told_as_seen tenant (Err fault.NoHistory) is
-  told_as_fault tenant (fault.Sink why) is = absurd is
+  -- what is found is told, and so is a fault of the tenant
+  pub tells_by :
+      (Shows : X → Outcome → Type 0) →
+      ((found : X) (outcome : Outcome) → Shows found outcome →
+      outcome ≡ told_seen r.shows (Ok (r.sees found))) →
+      (tenant : Option Machine) (read : Result X ReadFault) →
+      IsShown r.sees (seen_in r.answers tenant) read →
+      TellsBy Shows (served_to tenant (Ok r.request) moment).told read
+  tells_by Shows so tenant (Ok found) is =
+      λ outcome shown. told_as_seen tenant (Ok (r.sees found)) is ∙ sym (so found outcome shown)
+  tells_by Shows so tenant (Err fault.UnknownKey) is = λ ne. told_as_seen tenant (Err fault.UnknownKey) is
+  tells_by Shows so tenant (Err (fault.Unavailable why)) is = λ ne. absurd (ne refl)
+  tells_by Shows so tenant (Err fault.NoAccount) is = λ ne. told_as_seen tenant (Err fault.NoAccount) is
+  tells_by Shows so tenant (Err fault.NoHistory) is = λ ne. told_as_seen tenant (Err fault.NoHistory) is
+  tells_by Shows so tenant (Err (fault.Sink why)) is = absurd is
 
--- a fault that is handed on
-pub told_on :
-    (told : Outcome) (result : Result Outcome ReadFault) (why : ReadFault) →
-    IsErrAnd result (λ fault. fault ≡ why) → ShowsOutcome told (Err why) → ShowsOutcome told result
-told_on told (Ok outcome) why is shows = absurd is
-told_on told (Err fault) why is shows =
-    subst (λ (f : ReadFault). ShowsOutcome told (Err f)) (sym is) shows
-
-failed_on :
-    {A : Type 0} (result : Result A ReadFault) (why other : ReadFault) →
-    IsErrAnd result (λ fault. fault ≡ why) → why ≡ other → result ≡ Err other
-failed_on (Ok outcome) why other is same = absurd is
-failed_on (Err f) why other is same = ap (λ (f : ReadFault). Err f) (is ∙ same)
+fault_told :
+    (X : Type 0) (why : ReadFault) → Fixed (refusal_of why) ≢ unavailable → IsTold {A = X} (Err why)
+fault_told X fault.UnknownKey available = tt
+fault_told X (fault.Unavailable why) available = available refl
+fault_told X fault.NoAccount available = tt
+fault_told X fault.NoHistory available = tt
+fault_told X (fault.Sink why) available = available refl
 
 abbrev refused : (X : Type 0) → ReadFault → Result X ReadFault
 refused X why = Err why
 
-same_fault : {X : Type 0} (why other : ReadFault) → refused X why ≡ refused X other → why ≡ other
-same_fault why other is = cc
+same_fault : (X : Type 0) (why other : ReadFault) → refused X why ≡ refused X other → why ≡ other
+same_fault X why other is = cc
 
--- a read of a tenant's machine, as one that shows it what it is told
-module _ {S A X : Type 0} (r : Reading A X) (t : LedgersMeaning S) (digest : List ℕ) (old new : S) where
-  pub fault_read :
-      (result : Result Outcome ReadFault) (why : ReadFault) → IsErrAnd result (λ fault. fault ≡ why) →
-      ReadsTenant t digest (λ tenant. IsShown r.sees (seen_in r.answers tenant)) old new (Err why) →
-      ReadsTenant t digest (ShowsTo r.request) old new result
-  fault_read result why is read = record {
-    told = λ live moment. told_on _ result why is (told_as_fault r moment _ why (read.told live));
-    failed = λ has. failed_on result why (fault.Unavailable Disk) is (same_fault why (fault.Unavailable Disk) (read.failed has));
-    finds = finding.finds_on t _ _ _ _ _ _ (finding.told_on X result why is) (λ was now nowhere. nowhere) read.finds;
-    reads = read.reads;
+-- the reply to a read that finds something, and to one that fails
+module _ {X : Type 0} (Shows : X → Outcome → Type 0) (read : Result X ReadFault) where
+  pub begins_found :
+      (found : X) (outcome : Outcome) (reply : Reply) (begun : Begun) → read ≡ Ok found →
+      Shows found outcome → begun ≡ whole reply →
+      (reply ≢ unavailable → reply_text reply ≡ outcome_text outcome) → BeginsRead Shows read begun
+  begins_found found outcome reply begun is shown whole_is text = record {
+    reply = reply;
+    is = whole_is;
+    text = λ told tells ne.
+        text ne ∙ ap outcome_text (sym (subst (TellsBy Shows told) is tells outcome shown));
+    told = λ ne. subst (λ (r : Result X ReadFault). IsTold r) (sym is) tt;
+    failed = λ why fails. absurd (let e = sym is ∙ fails in cc);
   }
 
-  pub shown_read :
-      (outcome : Outcome) (found : X) → told_seen r.shows (Ok (r.sees found)) ≡ outcome →
-      ReadsTenant t digest (λ tenant. IsShown r.sees (seen_in r.answers tenant)) old new (Ok found) →
-      ReadsTenant t digest (ShowsTo r.request) old new (Ok outcome)
-  shown_read outcome found is read = record {
-    told = λ live moment. told_as_seen r moment _ _ (read.told live) ∙ is;
-    failed = λ has. absurd (let e = read.failed has in cc);
-    finds = read.finds;
-    reads = read.reads;
+  pub begins_fault :
+      (why : ReadFault) (begun : Begun) → read ≡ Err why → begun ≡ whole (Fixed (refusal_of why)) →
+      BeginsRead Shows read begun
+  begins_fault why begun is whole_is = record {
+    reply = Fixed (refusal_of why);
+    is = whole_is;
+    text = λ told tells ne.
+        ap outcome_text (sym (subst (TellsBy Shows told) is tells (λ u. ne (ap Fixed u))));
+    told = λ ne. subst (λ (r : Result X ReadFault). IsTold r) (sym is) (fault_told X why ne);
+    failed = λ other fails.
+        ap (λ (f : ReadFault). Fixed (refusal_of f)) (same_fault X why (fault.Unavailable other) (sym is ∙ fails));
   }
+
+-- a page, whose entries are shown so
+pub page_shown :
+    {A : Type 0} {Shows : List A → Entries → Type 0} {outcome : Outcome} (page : QueryPage A)
+    (shows : List A → Entries) →
+    ((entries : Entries) → Shows page.entries.items entries → entries ≡ shows page.entries.items) →
+    ShowsPage Shows page outcome → outcome ≡ Page page.clock page.next (shows page.entries.items)
+page_shown page shows so shown =
+    shown.is ∙ ap (λ (entries : Entries). Page page.clock page.next entries) (so shown.entries shown.shown)

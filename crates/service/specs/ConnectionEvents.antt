@@ -5,8 +5,9 @@ use Rattle.chain.specs.Ledgers.{LedgersMeaning, Tenants}
 use Rattle.ledger_http.specs.declared.reply.Reply.{Reply}
 use Rattle.ledger_http.specs.Question.{asked_of}
 use Rattle.service.specs.Connections.{Connection, IsFirstAnswered, IsTurnedAway, LacksMemory, Exchange}
-use Rattle.service.specs.Connections.{Runs, Nothing, More}
+use Rattle.service.specs.Connections.{Runs}
 use Rattle.service.specs.Courses.{Event, Replied, Course}
+use Rattle.service.specs.InTurn.{OfSteps, events_along}
 use Rattle.service.specs.OwnDeeds.{EachSees}
 
 -- the event of an exchange; what is refused while it is read is none
@@ -23,9 +24,8 @@ event_in reply (inr refused) = []
 abbrev pub events_in :
     {S C : Type 0} {t : LedgersMeaning S} {gives : C → ℕ → C → Type 0} {first last : Connection S C}
     {replies : List Reply} → Runs S C t gives first replies last → List Event
-events_in Nothing = []
-events_in (More replies last reply next runs exchange) =
-    events_in runs ++ event_in reply exchange.by
+events_in {t} {gives} =
+    events_along {Steps = Exchange t gives} (λ old reply new exchange. event_in reply exchange.by)
 
 -- an exchange leads every course on that has led to its ledgers
 abbrev pub ExchangesLeadOn :
@@ -41,11 +41,9 @@ ExchangesLeadOn {S} {C} t gives =
 abbrev pub OfConnections :
     {S C : Type 0} → LedgersMeaning S → (C → ℕ → C → Type 0)
     → (Tenants → List Event → Tenants → Type 0) → Type 0
-OfConnections {S} {C} t gives IsSo =
-    (first last : Connection S C) (replies : List Reply)
-    (runs : Runs S C t gives first replies last)
-    → t.is_live last.ledgers
-    → IsSo (t.tenants first.ledgers) (events_in runs) (t.tenants last.ledgers)
+OfConnections {S} {C} t gives =
+    OfSteps {Steps = Exchange t gives} (λ old reply new exchange. event_in reply exchange.by) t
+    (λ connection. connection.ledgers)
 
 -- so the exchanges of a connection are a course
 abbrev pub ConnectionsAreCourses : {S C : Type 0} → LedgersMeaning S → (C → ℕ → C → Type 0) → Type 0

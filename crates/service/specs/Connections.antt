@@ -14,6 +14,7 @@ use Rattle.ledger_http.specs.First.{IsBrokenOff}
 use Rattle.service.specs.declared.exchanging.Exchanged.{Exchanged}
 use Rattle.service.specs.declared.serving.ServeFault.{ServeFault}
 use Rattle.service.specs.declared.serving.ServeFault.TheVariants.{Read, Write}
+use Rattle.service.specs.InTurn.{InTurn}
 use Rattle.service.specs.Replies.{unavailable}
 use Rattle.service.specs.Responds.{Responds, RefusesEarly, IsLeftBy}
 use Rattle.service.specs.Responds as response
@@ -48,15 +49,20 @@ pub record IsFirstAnswered {S C : Type 0} (t : LedgersMeaning S) (gives : C → 
   pub follows : t.follows old.ledgers new.ledgers
   pub goes_on : new.goes_on ≡ true
 
--- nothing changes but what is unread, no moment is asked for, and the connection ends
-pub record IsCutOff {S C : Type 0} (old new : Connection S C) : Type 0 where
-  pub ledgers : new.ledgers ≡ old.ledgers
-  pub moments : new.moments ≡ old.moments
-  pub ends : new.goes_on ≡ false
-
 -- of what is unread at most so many bytes are taken
 abbrev pub TakesAtMost : ℕ → List ℕ → Option (List ℕ) → Type 0
 TakesAtMost most unread left = (size : ℕ) × (size ≤ most) × (left ≡ Some (drop size unread))
+
+-- nothing changes but what is unread, of which this holds and at most so much is taken; no moment is
+-- asked for, and the connection ends
+pub record IsCutOff {S C : Type 0} (Holds : List ℕ → Type 0) (most : List ℕ → ℕ)
+    (old new : Connection S C) : Type 0 where
+  pub first : (unread : List ℕ) → old.unread ≡ Some unread → Holds unread
+  pub taken :
+      (unread : List ℕ) → old.unread ≡ Some unread → TakesAtMost (most unread) unread new.unread
+  pub ledgers : new.ledgers ≡ old.ledgers
+  pub moments : new.moments ≡ old.moments
+  pub ends : new.goes_on ≡ false
 
 -- a message is refused while it is read, and nothing is taken of what is behind its head; where it
 -- is not known what is unread, the refusal is still one of those that are told while one is read
@@ -65,21 +71,14 @@ pub record IsTurnedAway {S C : Type 0} (old : Connection S C) (reply : Reply)
   pub refusal : Refusal
   pub told : reply ≡ Fixed refusal
   pub early : is_of_reading refusal ≡ true
-  pub first : (unread : List ℕ) → old.unread ≡ Some unread → IsRefused unread refusal
-  pub taken :
-      (unread : List ℕ) → old.unread ≡ Some unread →
-      TakesAtMost (refused_size unread refusal) unread new.unread
-  pub cut : IsCutOff old new
+  pub cut :
+      IsCutOff (λ unread. IsRefused unread refusal) (λ unread. refused_size unread refusal) old new
 
 -- memory runs out for the body of a message whose head is good, of which nothing is taken
 pub record LacksMemory {S C : Type 0} (old : Connection S C) (reply : Reply)
     (new : Connection S C) : Type 0 where
   pub told : reply ≡ unavailable
-  pub first : (unread : List ℕ) → old.unread ≡ Some unread → IsAnnounced unread
-  pub taken :
-      (unread : List ℕ) → old.unread ≡ Some unread →
-      TakesAtMost (head_size unread) unread new.unread
-  pub cut : IsCutOff old new
+  pub cut : IsCutOff IsAnnounced head_size old new
 
 -- one message and its reply
 pub record Exchange {S C : Type 0} (t : LedgersMeaning S) (gives : C → ℕ → C → Type 0)
@@ -104,13 +103,10 @@ Exchanges t gives old ledgers unread moments (Some exchanged) =
     Exchange t gives old exchanged.reply (connection ledgers unread moments exchanged.goes_on)
 
 -- exchanges, one after the other, with these replies
-pub data Runs (S C : Type 0) (t : LedgersMeaning S) (gives : C → ℕ → C → Type 0)
-    (first : Connection S C) : List Reply → Connection S C → Type 0 where
-  Nothing : Runs S C t gives first [] first
-  More :
-      (replies : List Reply) (last : Connection S C) (reply : Reply) (next : Connection S C) →
-      Runs S C t gives first replies last → Exchange t gives last reply next →
-      Runs S C t gives first (replies ++ reply ∷ []) next
+abbrev pub Runs :
+    (S C : Type 0) → LedgersMeaning S → (C → ℕ → C → Type 0) → Connection S C → List Reply
+    → Connection S C → Type 0
+Runs S C t gives = InTurn (Connection S C) Reply (Exchange t gives)
 
 -- the bytes of replies, one after the other
 abbrev pub texts_of : List Reply → List ℕ
@@ -126,29 +122,29 @@ pub record HasReplied {S C : Type 0} (t : LedgersMeaning S) (gives : C → ℕ �
   pub many : number ≡ length replies
   pub texts : Appends written written_now (texts_of replies)
 
--- a connection that is over without a fault: all replies that were asked for are written, or the
--- last one ended it, or the input has ended; nothing is read behind the last message
-pub record HasServed {S C : Type 0} (t : LedgersMeaning S) (gives : C → ℕ → C → Type 0)
-    (first : Connection S C) (written : Option (List ℕ)) (most number : ℕ) (ledgers : S)
+-- so many replies are written, and no message is answered behind them, because of this
+pub record HasStopped {S C : Type 0} (t : LedgersMeaning S) (gives : C → ℕ → C → Type 0)
+    (first : Connection S C) (written : Option (List ℕ)) (number : ℕ)
+    (Why : Connection S C → Option (List ℕ) → Type 0) (ledgers : S)
     (unread_now : Option (List ℕ)) (moments : C) (written_now : Option (List ℕ)) :
     Type 0 where
   pub last : Connection S C
   pub replied : HasReplied t gives first written number last written_now
-  pub ended : (number ≡ most) ⊎ ((last.goes_on ≡ false) ⊎ HasEnded last)
-  pub unread_left : Keeps last.unread unread_now
+  pub why : Why last unread_now
   pub ledgers_left : ledgers ≡ last.ledgers
   pub moments_left : moments ≡ last.moments
 
--- the reader failed behind so many replies, before another message was whole or refused
-pub record HasFailedToRead {S C : Type 0} (t : LedgersMeaning S) (gives : C → ℕ → C → Type 0)
-    (first : Connection S C) (written : Option (List ℕ)) (number : ℕ) (ledgers : S)
-    (unread_now : Option (List ℕ)) (moments : C) (written_now : Option (List ℕ)) :
-    Type 0 where
-  pub last : Connection S C
-  pub replied : HasReplied t gives first written number last written_now
-  pub broken : (unread : List ℕ) → last.unread ≡ Some unread → IsBrokenOff unread unread_now
-  pub ledgers_left : ledgers ≡ last.ledgers
-  pub moments_left : moments ≡ last.moments
+-- a connection is over without a fault: all replies that were asked for are written, or the last
+-- one ended it, or the input has ended; nothing is read behind the last message
+pub record IsServedOut {S C : Type 0} (most number : ℕ) (last : Connection S C)
+    (unread_now : Option (List ℕ)) : Type 0 where
+  pub ended : (number ≡ most) ⊎ ((last.goes_on ≡ false) ⊎ HasEnded last)
+  pub unread_left : Keeps last.unread unread_now
+
+-- the reader failed before another message was whole or refused
+abbrev pub IsReadBroken : {S C : Type 0} → Connection S C → Option (List ℕ) → Type 0
+IsReadBroken last unread_now =
+    (unread : List ℕ) → last.unread ≡ Some unread → IsBrokenOff unread unread_now
 
 -- the writer failed behind so many replies: the next exchange is done, a beginning of its reply
 -- written, and nothing read behind its message
@@ -172,9 +168,10 @@ abbrev pub IsServed :
     {S C : Type 0} → LedgersMeaning S → (C → ℕ → C → Type 0) → Connection S C → Option (List ℕ)
     → ℕ → S → Option (List ℕ) → C → Option (List ℕ) → Result ℕ ServeFault → Type 0
 IsServed t gives first written most ledgers unread_now moments written_now (Ok number) =
-    HasServed t gives first written most number ledgers unread_now moments written_now
+    HasStopped t gives first written number (IsServedOut most number) ledgers unread_now moments
+    written_now
 IsServed t gives first written most ledgers unread_now moments written_now (Err (Read number)) =
-    HasFailedToRead t gives first written number ledgers unread_now moments written_now
+    HasStopped t gives first written number IsReadBroken ledgers unread_now moments written_now
 IsServed t gives first written most ledgers unread_now moments written_now (Err (Write number)) =
     HasFailedToWrite t gives first written number ledgers unread_now moments written_now
 

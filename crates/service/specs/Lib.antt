@@ -5,6 +5,7 @@ pub mod Deeds
 pub mod DeedLaws
 pub mod Reading
 pub mod Responds
+pub mod InTurn
 pub mod Connections
 pub mod Sound
 pub mod Courses

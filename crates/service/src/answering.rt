@@ -1,76 +1,21 @@
 //! Answers one tenant's request.
-ghost use Rattle.std.specs.Prelude.{◌≡◌, ◌≢◌, ◌≤◌, ℕ, Result, Ok, Err, length};
+ghost use Rattle.std.specs.Prelude.{◌≡◌, ◌≢◌, ℕ, Result, Ok, Err};
 ghost use Rattle.sha2.specs.Sha256.{sha256};
 ghost use Rattle.ledger_http.specs.declared.refusal.Refusal.{Refusal};
 ghost use Rattle.wire.specs.declared.request.Request.{Request};
 ghost use Rattle.wire.specs.Meaning.{meaning_of, HasFew};
-ghost use Rattle.wire.specs.declared.request.Request.TheVariants.{Accounts, Transfers};
 ghost use Rattle.service.specs.Calls.{BeginsOver, ServesOver};
-ghost use Rattle.service.specs.Replies.{batch_reply};
 
-use crate::batches::{AccountBatch, TransferBatch};
+use crate::batches::BatchEvents;
 use crate::begun::Begun;
-use crate::querying::queried;
-use crate::reading::{
-    history_of_balances, history_of_transfers, looked_up_accounts, looked_up_holds,
-    looked_up_transfers,
-};
-use crate::showing::reply_to_read;
+use crate::querying::begin_query;
+use crate::showing::begin_list;
 use crate::statements::begin_statement;
-use chain::{BatchFault, Ledgers};
+use chain::Ledgers;
 use ledger_http::{Asked, Refusal, Reply};
-use records::{AccountEvent, TransferEvent};
 use std::alloc::Global;
 use tenants::digest;
-use wire::{Items, Request, meaning};
-
-fn batch_reply(batch: Result<Reply, BatchFault>) -> Reply
-    ensures { result ≡ batch_reply batch }
-{
-    match batch {
-        Ok(reply) => reply,
-        Err(BatchFault::UnknownKey) => Reply::Fixed(Refusal::UnknownKey),
-        Err(BatchFault::Unavailable(_)) => Reply::Fixed(Refusal::Unavailable),
-    }
-}
-
-fn accounts<L: Ledgers>(
-    alloc: Global,
-    ledgers: &mut L,
-    digest: &[u8; 32],
-    events: Items<AccountEvent>,
-    moment: u64,
-) -> Reply
-    requires few { length events ≤ 1000 }
-    ensures { ServesOver L.means digest.now (Ok (Accounts events)) moment
-        ledgers.old ledgers.new result }
-{
-    let work = AccountBatch {
-        alloc,
-        events,
-        moment,
-    };
-    batch_reply(ledgers.in_batch(digest, work))
-}
-
-fn transfers<L: Ledgers>(
-    alloc: Global,
-    ledgers: &mut L,
-    digest: &[u8; 32],
-    events: Items<TransferEvent>,
-    moment: u64,
-) -> Reply
-    requires few { length events ≤ 1000 }
-    ensures { ServesOver L.means digest.now (Ok (Transfers events)) moment
-        ledgers.old ledgers.new result }
-{
-    let work = TransferBatch {
-        alloc,
-        events,
-        moment,
-    };
-    batch_reply(ledgers.in_batch(digest, work))
-}
+use wire::{Outcome, Request, meaning};
 
 // Serves a request that is not refused, and begins the reply.
 fn serve_request<L: Ledgers>(
@@ -86,33 +31,36 @@ fn serve_request<L: Ledgers>(
 {
     match request {
         Request::Accounts(events) => {
-            Begun::whole(accounts(alloc, ledgers, digest, events, moment))
+            BatchEvents::Accounts(events).begin(alloc, ledgers, digest, moment)
         }
         Request::Transfers(events) => {
-            Begun::whole(transfers(alloc, ledgers, digest, events, moment))
+            BatchEvents::Transfers(events).begin(alloc, ledgers, digest, moment)
         }
         Request::LookupAccounts(ids) => {
-            let found = looked_up_accounts(alloc, ledgers, digest, ids.as_slice());
-            Begun::whole(reply_to_read(alloc, found))
+            let found = ledgers.lookup_accounts(alloc, digest, ids.as_slice());
+            let shows = |clock, accounts| Outcome::Accounts { clock, accounts };
+            begin_list(alloc, found, shows)
         }
         Request::LookupTransfers(ids) => {
-            let found = looked_up_transfers(alloc, ledgers, digest, ids.as_slice());
-            Begun::whole(reply_to_read(alloc, found))
+            let found = ledgers.lookup_transfers(alloc, digest, ids.as_slice());
+            let shows = |clock, transfers| Outcome::Transfers { clock, transfers };
+            begin_list(alloc, found, shows)
         }
         Request::HistoryTransfers(asked) => {
-            let found = history_of_transfers(alloc, ledgers, digest, &asked);
-            Begun::whole(reply_to_read(alloc, found))
+            let found = ledgers.history_transfers(alloc, digest, &asked);
+            let shows = |clock, transfers| Outcome::Transfers { clock, transfers };
+            begin_list(alloc, found, shows)
         }
         Request::HistoryBalances(asked) => {
-            let found = history_of_balances(alloc, ledgers, digest, &asked);
-            Begun::whole(reply_to_read(alloc, found))
+            let found = ledgers.history_balances(alloc, digest, &asked);
+            let shows = |clock, balances| Outcome::Balances { clock, balances };
+            begin_list(alloc, found, shows)
         }
-        Request::Query(query) => {
-            Begun::whole(reply_to_read(alloc, queried(alloc, ledgers, digest, &query)))
-        }
+        Request::Query(query) => begin_query(alloc, ledgers, digest, &query),
         Request::LookupPending(ids) => {
-            let found = looked_up_holds(alloc, ledgers, digest, ids.as_slice());
-            Begun::whole(reply_to_read(alloc, found))
+            let found = ledgers.lookup_pending(alloc, digest, ids.as_slice());
+            let shows = |clock, holds| Outcome::Holds { clock, holds };
+            begin_list(alloc, found, shows)
         }
         Request::Statement(account) => begin_statement(alloc, ledgers, digest, account),
     }

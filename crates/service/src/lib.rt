@@ -9,7 +9,6 @@ mod exchanging;
 mod laws;
 mod moments;
 mod querying;
-mod reading;
 mod responding;
 mod round;
 mod serving;

@@ -1,78 +1,36 @@
 //! Queries of one tenant's ledger, as the pages that replies show.
-ghost use Rattle.wire.specs.declared.request.Query.TheVariants.{Accounts, Transfers, OpenPending};
+ghost use Rattle.std.specs.Prelude.{ℕ, Ok};
 ghost use Rattle.wire.specs.declared.request.Request.TheVariants as asks;
-ghost use Rattle.chain.specs.LedgerReads.{ReadsTenant};
-ghost use Rattle.service.specs.Reading.{ShowsTo};
+ghost use Rattle.service.specs.Calls.{BeginsOver};
 
-use chain::{Ledgers, ReadFault};
-use records::{PageFilter, QueryFilter};
+use crate::begun::Begun;
+use crate::showing::begin_page;
+use chain::Ledgers;
 use std::alloc::Global;
-use wire::{Entries, Outcome, Query};
+use wire::{Entries, Query};
 
-fn accounts<L: Ledgers>(
-    alloc: Global,
-    ledgers: &mut L,
-    digest: &[u8; 32],
-    asked: &QueryFilter,
-) -> Result<Outcome, ReadFault>
-    ensures { ReadsTenant L.means digest.now (ShowsTo (asks.Query (Accounts asked.now)))
-        ledgers.old ledgers.new result }
-{
-    let page = ledgers.query_accounts(alloc, digest, asked)?;
-    Ok(Outcome::Page {
-        clock: page.clock,
-        next: page.next,
-        entries: Entries::Accounts(page.entries.into()),
-    })
-}
-
-fn transfers<L: Ledgers>(
-    alloc: Global,
-    ledgers: &mut L,
-    digest: &[u8; 32],
-    asked: &QueryFilter,
-) -> Result<Outcome, ReadFault>
-    ensures { ReadsTenant L.means digest.now (ShowsTo (asks.Query (Transfers asked.now)))
-        ledgers.old ledgers.new result }
-{
-    let page = ledgers.query_transfers(alloc, digest, asked)?;
-    Ok(Outcome::Page {
-        clock: page.clock,
-        next: page.next,
-        entries: Entries::Transfers(page.entries.into()),
-    })
-}
-
-fn open_holds<L: Ledgers>(
-    alloc: Global,
-    ledgers: &mut L,
-    digest: &[u8; 32],
-    asked: &PageFilter,
-) -> Result<Outcome, ReadFault>
-    ensures { ReadsTenant L.means digest.now (ShowsTo (asks.Query (OpenPending asked.now)))
-        ledgers.old ledgers.new result }
-{
-    let page = ledgers.open_pending(alloc, digest, asked)?;
-    Ok(Outcome::Page {
-        clock: page.clock,
-        next: page.next,
-        entries: Entries::OpenHolds(page.entries.into()),
-    })
-}
-
-/// The page that a query asks for.
-pub(crate) fn queried<L: Ledgers>(
+/// Begins the reply to who asks for a page.
+pub(crate) fn begin_query<L: Ledgers>(
     alloc: Global,
     ledgers: &mut L,
     digest: &[u8; 32],
     query: &Query,
-) -> Result<Outcome, ReadFault>
-    ensures { ReadsTenant L.means digest.now (ShowsTo (asks.Query query.now))
+) -> Begun
+    ensures { (moment : ℕ) → BeginsOver L.means digest.now (Ok (asks.Query query.now)) moment
         ledgers.old ledgers.new result }
 {
     match query {
-        Query::Accounts(asked) => accounts(alloc, ledgers, digest, asked),
-        Query::Transfers(asked) => transfers(alloc, ledgers, digest, asked),
-        Query::OpenPending(asked) => open_holds(alloc, ledgers, digest, asked),
+        Query::Accounts(asked) => {
+            let page = ledgers.query_accounts(alloc, digest, asked);
+            begin_page(alloc, page, Entries::Accounts)
+        }
+        Query::Transfers(asked) => {
+            let page = ledgers.query_transfers(alloc, digest, asked);
+            begin_page(alloc, page, Entries::Transfers)
+        }
+        Query::OpenPending(asked) => {
+            let page = ledgers.open_pending(alloc, digest, asked);
+            begin_page(alloc, page, Entries::OpenHolds)
+        }
     }
 }

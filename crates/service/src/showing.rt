@@ -1,18 +1,15 @@
 //! Replies that show outcomes.
-ghost use Rattle.std.specs.Prelude.{◌≡◌, ◌≢◌, Err, IfOk};
+ghost use Rattle.std.specs.Prelude.{◌≡◌, ◌≢◌, IfOk};
 ghost use Rattle.ledger_http.specs.ReplyText.{reply_text};
-ghost use Rattle.wire.specs.declared.outcome.Outcome.{Outcome};
 ghost use Rattle.wire.specs.Told.{outcome_text};
+ghost use Rattle.service.specs.Reading.{BeginsRead, ShowsPage, refusal_of};
 ghost use Rattle.service.specs.Replies.{unavailable};
-ghost use Rattle.chain.specs.LedgerReads.{IsTold};
-ghost use Rattle.chain.specs.declared.reads.ReadFault.TheVariants as fault;
-ghost use Rattle.records.specs.declared.unavailable.Unavailable.{Unavailable};
-ghost use Rattle.service.specs.Reading.{ShowsOutcome, refusal_of};
 
-use chain::ReadFault;
+use crate::begun::Begun;
+use chain::{Listed, QueryPage, ReadFault};
 use ledger_http::{Refusal, Reply};
 use std::alloc::{AllocError, Global};
-use wire::{Outcome, reply_bytes};
+use wire::{Entries, Items, Outcome, reply_bytes};
 
 /// The reply that shows an outcome.
 pub(crate) fn reply_to(alloc: Global, outcome: Outcome) -> Result<Reply, AllocError>
@@ -33,19 +30,48 @@ pub(crate) fn refusal_of(fault: ReadFault) -> Refusal
     }
 }
 
-/// The reply to a read.
-pub(crate) fn reply_to_read(alloc: Global, read: Result<Outcome, ReadFault>) -> Reply
-    ensures shows { (told : Outcome) → ShowsOutcome told read → result ≢ unavailable
-        → reply_text result ≡ outcome_text told }
-    ensures told { result ≢ unavailable → IsTold read }
-    ensures failed { (why : Unavailable) → read ≡ Err (fault.Unavailable why)
-        → result ≡ unavailable }
+// The reply that shows what a read found.
+fn shown(alloc: Global, outcome: Outcome) -> Reply
+    ensures { result ≢ unavailable → reply_text result ≡ outcome_text outcome }
+{
+    match reply_to(alloc, outcome) {
+        Ok(reply) => reply,
+        Err(_) => Reply::Fixed(Refusal::Unavailable),
+    }
+}
+
+/// Begins the reply to a read that lists, whose list is shown so.
+pub(crate) fn begin_list<T, F: FnOnce(u64, Items<T>) -> Outcome + Drop>(
+    alloc: Global,
+    read: Result<Listed<T>, ReadFault>,
+    shows: F,
+) -> Begun
+    requires { F.IsAlwaysCallable shows }
+    ensures { BeginsRead (λ list. F.post shows list.clock list.entries.items) read result }
 {
     match read {
-        Ok(outcome) => match reply_to(alloc, outcome) {
-            Ok(reply) => reply,
-            Err(_) => Reply::Fixed(Refusal::Unavailable),
-        },
-        Err(fault) => Reply::Fixed(refusal_of(fault)),
+        Ok(list) => Begun::whole(shown(alloc, shows(list.clock, list.entries.into()))),
+        Err(why) => Begun::whole(Reply::Fixed(refusal_of(why))),
     }
+}
+
+/// Begins the reply to a read of a page, whose entries are shown so.
+pub(crate) fn begin_page<T, F: FnOnce(Items<T>) -> Entries + Drop>(
+    alloc: Global,
+    read: Result<QueryPage<T>, ReadFault>,
+    shows: F,
+) -> Begun
+    requires { F.IsAlwaysCallable shows }
+    ensures { BeginsRead (ShowsPage (F.post shows)) read result }
+{
+    let page = match read {
+        Ok(page) => page,
+        Err(why) => return Begun::whole(Reply::Fixed(refusal_of(why))),
+    };
+    let outcome = Outcome::Page {
+        clock: page.clock,
+        next: page.next,
+        entries: shows(page.entries.into()),
+    };
+    Begun::whole(shown(alloc, outcome))
 }

@@ -1,5 +1,5 @@
 -- What was tried on a store, as an event of a course.
-use Rattle.std.proofs.Common.{◌≡◌, ◌≢◌, inl, inr, ℕ, Bool, false, List, [], None, unwrap_or, Result}
+use Rattle.std.proofs.Common.{◌≡◌, ◌≢◌, ◌↔◌, inl, inr, ℕ, Bool, false, true, not, IsTrue, List, [], None, unwrap_or, Result}
 use Rattle.std.proofs.Common.{Ok, Err, refl, sym, ap, subst, ◌∙◌}
 use Rattle.records.specs.declared.unavailable.Unavailable.TheVariants.{Disk as DiskFailed}
 use Rattle.sqlite_disk.specs.declared.Disk as disk
@@ -8,20 +8,19 @@ use Rattle.sqlite_trees.specs.Tree.{Trees}
 use Rattle.sqlite.specs.Effect.{Database}
 use Rattle.sqlite.specs.Files.{file_state}
 use Rattle.sqlite.specs.Held.{Held}
-use Rattle.chain.specs.Ledgers.{Tenants}
+use Rattle.chain.specs.Ledgers.{Tenants, KeepsAll}
 use Rattle.stored_ledgers.specs.declared.joining.AddTenant.{AddTenant}
 use Rattle.stored_ledgers.specs.declared.joining.AddTenant.TheVariants as add
 use Rattle.stored_ledgers.specs.declared.keying.ChangeKey.{ChangeKey}
 use Rattle.stored_ledgers.specs.declared.keying.ChangeKey.TheVariants as key
+use Rattle.stored_ledgers.specs.Calls.{ChangesTenants}
 use Rattle.stored_ledgers.specs.Directory.{tenants_in}
 use Rattle.stored_ledgers.specs.DueSets.{DueSets}
-use Rattle.stored_ledgers.specs.declared.joining.Taken.{Taken}
-use Rattle.stored_ledgers.specs.declared.keying.KeyRefused.{KeyRefused}
-use Rattle.stored_ledgers.specs.Joining.{AreTaken, IsJoined, HasJoined, Joined, JoiningAddsOne, joining_answer}
-use Rattle.stored_ledgers.specs.Keying.{IsKeyed, HasKeyed, Keyed, KeyingMovesKey, keying_answer}
+use Rattle.stored_ledgers.specs.Joining.{AreTaken, IsJoined, HasJoined, Joined, JoiningAddsOne}
+use Rattle.stored_ledgers.specs.Keying.{IsKeyed, HasKeyed, Keyed, KeyingMovesKey}
 use Rattle.stored_ledgers.specs.Names.{names_in, first_named}
-use Rattle.stored_ledgers.specs.Transactions.{Answer}
 use Rattle.stored_ledgers.specs.Ledger.{HoldsLedgers}
+use Rattle.stored_ledgers.specs.Transactions.{Answer}
 use Rattle.service.specs.Deeds as deed
 use Rattle.service.specs.Deeds.{Deed, IsDeedDone, joined}
 use Rattle.service.specs.DeedLaws.{key_changed}
@@ -29,14 +28,19 @@ use Rattle.service.specs.Courses as course
 use Rattle.service.specs.Courses.{Ending, Tried, Happens}
 use Rattle.service.specs.Openings.{run_meaning, IsSettled, Moves, FoundAfter, As_now, As_before, As_done}
 use Rattle.store.specs.Deeds.{ending_of, key_ending}
-use Rattle.store.specs.Names.{names_at, digest_named}
+use Rattle.store.specs.Names.{names_at}
 use Rattle.store.specs.StoreLaws.{store_meaning, finds_itself}
-use Rattle.store.specs.Stores.{IsUsable, IsUsableAt, IsLive, IsLiveAt, IsHonest, IsSettledStore, tenants_of}
+use Rattle.store.specs.Stores.{IsUsable, IsUsableAt, IsLive, IsLiveAt, IsHonest, IsSettledAt, tenants_of}
 use Rattle.store.specs.Stores.{tenants_at, AnswersUnless, FindsTenants, StoreFollows, Goes, OfDatabase, OfDatabaseAt, OfDatabases}
 use Rattle.store.specs.declared.place.Place.{Place}
 use Rattle.store.specs.declared.place.Place.TheVariants as at
 use Rattle.store.specs.declared.store.Store.{Store}
 use Rattle.store.proofs.FindsLemmas.{found_after}
+use Rattle.store.proofs.ReadLemmas.{answers_as, finds_open, serves_open}
+
+-- a change that was not made leaves each machine
+keeps_machines : (old new : Database) → new ≡ old → KeepsAll (tenants_in old.trees) (tenants_in new.trees)
+keeps_machines old new same d = ap (λ (db : Database). tenants_in db.trees d) same
 
 -- a tenant has joined
 joined_in : JoiningAddsOne → (name digest : List ℕ) (old new : Database) → HoldsLedgers old
@@ -55,20 +59,13 @@ joining_in : JoiningAddsOne → (name digest : List ℕ) (old new : Database)
     → HasJoined name digest old new result
     → Happens (tenants_in old.trees) (Tried (deed.Joined digest) (ending_of result)) (tenants_in new.trees)
 joining_in law name digest old new (Ok done) ledgers told = joined_in law name digest old new ledgers told
-joining_in law name digest old new (Err add.NameTaken) ledgers told =
-    λ d. ap (λ (db : Database). tenants_in db.trees d) told.1
-joining_in law name digest old new (Err add.DigestTaken) ledgers told =
-    λ d. ap (λ (db : Database). tenants_in db.trees d) told.1
-joining_in law name digest old new (Err (add.Unavailable why)) ledgers told =
-    λ d. ap (λ (db : Database). tenants_in db.trees d) told
+joining_in law name digest old new (Err add.NameTaken) ledgers told = keeps_machines old new told.1
+joining_in law name digest old new (Err add.DigestTaken) ledgers told = keeps_machines old new told.1
+joining_in law name digest old new (Err (add.Unavailable why)) ledgers told = keeps_machines old new told
 
 -- the digest of the tenant with this name, or none
 abbrev digest_now : List ℕ → Trees → List ℕ
 digest_now name trees = unwrap_or (names_in trees name) []
-
-had_digest : (name digest : List ℕ) (old new : Database) (keyed : IsKeyed name digest old new)
-    → digest_now name old.trees ≡ keyed.was
-had_digest name digest old new keyed = ap (λ rows. unwrap_or (first_named rows) []) keyed.named
 
 -- a tenant has another key
 keyed_in : KeyingMovesKey → (name digest : List ℕ) (old new : Database) → HoldsLedgers old
@@ -76,8 +73,8 @@ keyed_in : KeyingMovesKey → (name digest : List ℕ) (old new : Database) → 
     → IsDeedDone (deed.Keyed (digest_now name old.trees) digest) (tenants_in old.trees) (tenants_in new.trees)
 keyed_in law name digest old new ledgers keyed =
     let moves = law name digest old new ledgers keyed in
-    subst (λ was. IsDeedDone (deed.Keyed was digest) (tenants_in old.trees) (tenants_in new.trees))
-    (sym (had_digest name digest old new keyed))
+    let had : digest_now name old.trees ≡ keyed.was = ap (λ rows. unwrap_or (first_named rows) []) keyed.named in
+    subst (λ was. IsDeedDone (deed.Keyed was digest) (tenants_in old.trees) (tenants_in new.trees)) (sym had)
     (key_changed keyed.was digest (tenants_in old.trees) (tenants_in new.trees) moves.machine moves.had
     moves.has moves.free moves.gone moves.others)
 
@@ -87,23 +84,11 @@ keying_in : KeyingMovesKey → (name digest : List ℕ) (old new : Database)
     → Happens (tenants_in old.trees)
     (Tried (deed.Keyed (digest_now name old.trees) digest) (key_ending result)) (tenants_in new.trees)
 keying_in law name digest old new (Ok done) ledgers told = keyed_in law name digest old new ledgers told
-keying_in law name digest old new (Err key.NoTenant) ledgers told =
-    λ d. ap (λ (db : Database). tenants_in db.trees d) told.1
-keying_in law name digest old new (Err key.DigestTaken) ledgers told =
-    λ d. ap (λ (db : Database). tenants_in db.trees d) told.1
-keying_in law name digest old new (Err (key.Unavailable why)) ledgers told =
-    λ d. ap (λ (db : Database). tenants_in db.trees d) told
+keying_in law name digest old new (Err key.NoTenant) ledgers told = keeps_machines old new told.1
+keying_in law name digest old new (Err key.DigestTaken) ledgers told = keeps_machines old new told.1
+keying_in law name digest old new (Err (key.Unavailable why)) ledgers told = keeps_machines old new told
 
 module _ {D : Type 0} {g : disk.Ghosts D} where
-  -- a call that was not made
-  pub untried : (store : Store D g) (deed : Deed)
-      → Moves (run_meaning store_meaning.ledgers) store (Tried deed course.Unavailable) store
-  untried store deed = record {
-    happens = λ live d. refl;
-    lived = λ live. live;
-    found = λ found f. As_before tt f;
-  }
-
   -- what is so of two open databases that hold ledgers is so of their tenants
   now_at : (P : Place D g → Tenants → Type 0) (Told : Database → Database → Type 0)
       → ((conn : Held (FileStore D g)) (new : Database) → HoldsLedgers (file_state conn).now
@@ -160,62 +145,89 @@ module _ {D : Type 0} {g : disk.Ghosts D} where
       found = λ found f. found_so ending found open_yet f;
     }
 
+  -- which event of a course a change of an open store's tenants is, that is told so, and what a
+  -- crash in it may leave
+  pub record IsDeedOf {F : Type 0} (deed_of : Place D g → Deed) (ending : Result (Unit {0}) F → Ending) (fault : F)
+      (Told : Database → Database → Result (Unit {0}) F → Type 0) (After : Database → Trees → Type 0) : Type 0 where
+    pub unavailable : ending (Err fault) ≡ course.Unavailable
+    pub done : (conn : Held (FileStore D g)) (db : Trees) → HoldsLedgers (file_state conn).now
+        → After (file_state conn).now db
+        → IsDeedDone (deed_of (at.Open conn)) (tenants_in (file_state conn).now.trees) (tenants_in db)
+    pub tried : (conn : Held (FileStore D g)) (new : Database) (result : Result (Unit {0}) F)
+        → HoldsLedgers (file_state conn).now → Told (file_state conn).now new result
+        → Happens (tenants_in (file_state conn).now.trees) (Tried (deed_of (at.Open conn)) (ending result))
+        (tenants_in new.trees)
+
   -- the adding of a tenant
-  pub joins_so : JoiningAddsOne → (name digest : List ℕ) (old new : Store D g)
-      (joined : Answer (Unit {0}) Taken) (result : Result (Unit {0}) AddTenant)
-      → result ≡ joining_answer joined → IsUsable old → AnswersUnless (add.Unavailable DiskFailed) old new result
-      → Goes old new (λ db. OfDatabase (λ was. Joined name digest was db) old)
-      → IsSettledStore new
-      → (IsLive new → OfDatabases (λ before after.
-      HasJoined name digest before after (joining_answer joined)) old new)
-      → Moves (run_meaning store_meaning.ledgers) old (Tried (deed.Joined digest) (ending_of result)) new
-  joins_so law name digest old new joined result is usable answers goes settled told =
-      subst (λ result. Moves (run_meaning store_meaning.ledgers) old (Tried (deed.Joined digest) (ending_of result)) new)
-      (sym is)
-      (tried_so (deed.Joined digest) (Joined name digest) old new usable answers.follows
-      (λ shut. (answers.refuses shut).1) goes
-      (crashed_at (λ place found. IsDeedDone (deed.Joined digest) (tenants_at place) found)
+  pub joining_deed : JoiningAddsOne → (name digest : List ℕ)
+      → IsDeedOf (λ (place : Place D g). deed.Joined digest) ending_of (add.Unavailable DiskFailed) (HasJoined name digest)
       (Joined name digest)
-      (λ conn db ledgers. joined_in law name digest (file_state conn).now
-      (record { schema = (file_state conn).now.schema; trees = db }) ledgers)
-      old.ready old.due old.place usable)
-      (finds_itself new settled answers.usable)
-      (ending_of (joining_answer joined))
-      (λ live. now_at
-      (λ place found. Happens (tenants_at place) (Tried (deed.Joined digest) (ending_of (joining_answer joined))) found)
-      (λ before after. HasJoined name digest before after (joining_answer joined))
-      (λ conn after. joining_in law name digest (file_state conn).now after (joining_answer joined))
-      old.ready old.due old.place new.place usable (answers.follows.lived live) live (told live))
-      (λ honest differs. answers.open_yet honest
-      (λ failed. differs (ap ending_of (sym is ∙ failed)))))
+  joining_deed law name digest = record {
+    unavailable = refl;
+    done = λ conn db. joined_in law name digest (file_state conn).now
+        (record { schema = (file_state conn).now.schema; trees = db });
+    tried = λ conn. joining_in law name digest (file_state conn).now;
+  }
 
   -- the change of a tenant's key: of whoever has the name
-  pub keys_so : KeyingMovesKey → (name digest : List ℕ) (old new : Store D g)
-      (keyed : Answer (Unit {0}) KeyRefused) (result : Result (Unit {0}) ChangeKey)
-      → result ≡ keying_answer keyed → IsUsable old → AnswersUnless (key.Unavailable DiskFailed) old new result
-      → Goes old new (λ db. OfDatabase (λ was. Keyed name digest was db) old)
-      → IsSettledStore new
-      → (IsLive new → OfDatabases (λ before after.
-      HasKeyed name digest before after (keying_answer keyed)) old new)
-      → Moves (run_meaning store_meaning.ledgers) old
-      (Tried (deed.Keyed (digest_named old name) digest) (key_ending result)) new
-  keys_so law name digest old new keyed result is usable answers goes settled told =
-      let tried : Place D g → Deed = λ place. deed.Keyed (unwrap_or (names_at place name) []) digest in
-      subst (λ result. Moves (run_meaning store_meaning.ledgers) old (Tried (tried old.place) (key_ending result)) new)
-      (sym is)
-      (tried_so (tried old.place) (Keyed name digest) old new usable answers.follows
-      (λ shut. (answers.refuses shut).1) goes
-      (crashed_at (λ place found. IsDeedDone (tried place) (tenants_at place) found)
-      (Keyed name digest)
-      (λ conn db ledgers. keyed_in law name digest (file_state conn).now
-      (record { schema = (file_state conn).now.schema; trees = db }) ledgers)
-      old.ready old.due old.place usable)
-      (finds_itself new settled answers.usable)
-      (key_ending (keying_answer keyed))
-      (λ live. now_at
-      (λ place found. Happens (tenants_at place) (Tried (tried place) (key_ending (keying_answer keyed))) found)
-      (λ before after. HasKeyed name digest before after (keying_answer keyed))
-      (λ conn after. keying_in law name digest (file_state conn).now after (keying_answer keyed))
-      old.ready old.due old.place new.place usable (answers.follows.lived live) live (told live))
-      (λ honest differs. answers.open_yet honest
-      (λ failed. differs (ap key_ending (sym is ∙ failed)))))
+  pub keying_deed : KeyingMovesKey → (name digest : List ℕ)
+      → IsDeedOf (λ (place : Place D g). deed.Keyed (unwrap_or (names_at place name) []) digest) key_ending
+      (key.Unavailable DiskFailed) (HasKeyed name digest) (Keyed name digest)
+  keying_deed law name digest = record {
+    unavailable = refl;
+    done = λ conn db. keyed_in law name digest (file_state conn).now
+        (record { schema = (file_state conn).now.schema; trees = db });
+    tried = λ conn. keying_in law name digest (file_state conn).now;
+  }
+
+  -- what such a change leaves of a store that is open
+  pub record IsDeedMade {F : Type 0} (deed_of : Place D g → Deed) (ending : Result (Unit {0}) F → Ending) (fault : F)
+      (Told : Database → Database → Result (Unit {0}) F → Type 0) (After : Database → Trees → Type 0)
+      (old new : Store D g) (result : Result (Unit {0}) F) : Type 0 where
+    pub told : IsLive new → OfDatabases (λ before after. Told before after result) old new
+    pub finds : Goes old new (λ db. OfDatabase (λ was. After was db) old)
+    pub answers : AnswersUnless fault old new result
+    pub moves : Moves (run_meaning store_meaning.ledgers) old (Tried (deed_of old.place) (ending result)) new
+
+  module _ {F R : Type 0} {deed_of : Place D g → Deed} {ending : Result (Unit {0}) F → Ending} {fault : F}
+      {Told : Database → Database → Result (Unit {0}) F → Type 0} {After : Database → Trees → Type 0}
+      (change : IsDeedOf deed_of ending fault Told After) (old : Store D g) (conn conn' : Held (FileStore D g))
+      (is_open : old.place ≡ at.Open conn) (ready : old.ready ≡ true) {failed : Bool} {made : Answer (Unit {0}) R}
+      (fault_told : IsTrue failed ↔ (made ≡ Err DiskFailed)) (usable : IsUsable old)
+      (words : Answer (Unit {0}) R → Result (Unit {0}) F) {result : Result (Unit {0}) F} (is : result ≡ words made)
+      (in_words : words (Err DiskFailed) ≡ Err fault) (only : result ≡ Err fault → made ≡ Err DiskFailed)
+      {sets : DueSets} (changed : ChangesTenants DiskFailed (λ before after. Told before after (words made)) After sets
+      (file_state conn) (file_state conn') made)
+      (settled : IsSettledAt (at.Open conn')) where
+    abbrev new : Store D g
+    new = record old { place = at.Open conn'; ready = not failed; due = sets }
+
+    tells_so : IsLive new → OfDatabases (λ before after. Told before after result) old new
+    tells_so live =
+        subst (OfDatabaseAt (λ before. Told before (file_state conn').now result)) (sym is_open)
+        (subst (Told (file_state conn).now (file_state conn').now) (sym is) (changed.told live))
+
+    answers_so : AnswersUnless fault old new result
+    answers_so =
+        answers_as g fault old new made result (only, λ disk. is ∙ ap words disk ∙ in_words) ready
+        (serves_open g made failed old new conn conn' is_open refl ready refl fault_told usable
+        changed.serves changed.survives)
+
+    pub deed_made : IsDeedMade deed_of ending fault Told After old new result
+    deed_made =
+        let finds : Goes old new (λ db. OfDatabase (λ was. After was db) old) =
+        finds_open g After old.place conn conn' is_open changed.survives in record {
+          told = tells_so;
+          finds = finds;
+          answers = answers_so;
+          moves =
+              tried_so (deed_of old.place) After old new usable answers_so.follows
+              (λ shut. (answers_so.refuses shut).1) finds
+              (crashed_at (λ place found. IsDeedDone (deed_of place) (tenants_at place) found) After change.done
+              old.ready old.due old.place usable)
+              (finds_itself new settled answers_so.usable) (ending result)
+              (λ live. now_at (λ place found. Happens (tenants_at place) (Tried (deed_of place) (ending result)) found)
+              (λ before after. Told before after result) (λ conn after. change.tried conn after result)
+              old.ready old.due old.place new.place usable (answers_so.follows.lived live) live (tells_so live))
+              (λ honest differs. answers_so.open_yet honest (λ same. differs (ap ending same ∙ change.unavailable)));
+        }

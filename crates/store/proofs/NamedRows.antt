@@ -5,7 +5,7 @@ use Rattle.std.specs.List.{AllByRecursion}
 use Rattle.std.proofs.lemmas.Bool.{and_parts, true≢false}
 use Rattle.std.proofs.lemmas.Slice.Eq.{bytes_eq-Decides}
 use Rattle.sqlite_value.specs.declared.value.Value.{Value}
-use Rattle.sqlite_value.specs.declared.value.Value.TheVariants.{Null, Int, Real, Text, Blob}
+use Rattle.sqlite_value.specs.declared.value.Value.TheVariants.{Text, Blob}
 use Rattle.sqlite_value.specs.Order.{Row, column}
 use Rattle.sqlite_sql.specs.Ops.{is_null}
 use Rattle.sqlite_trees.specs.Tree.{Trees}
@@ -54,18 +54,12 @@ record IsEntry (row : Row) : Type 0 where
 of_blob : (v : Value) → is_of kind.Blob v ≡ true → is_null v ≡ false
     → (bytes : List ℕ) × (v ≡ Blob bytes)
 of_blob (Blob bytes) typed present = (bytes, refl)
-of_blob Null typed present = absurd (cc)
-of_blob (Int n) typed present = absurd (cc)
-of_blob (Real x) typed present = absurd (cc)
-of_blob (Text t) typed present = absurd (cc)
+of_blob v typed present = absurd (cc)
 
 of_text : (v : Value) → is_of kind.Text v ≡ true → is_null v ≡ false
     → (text : List ℕ) × (v ≡ Text text)
 of_text (Text text) typed present = (text, refl)
-of_text Null typed present = absurd (cc)
-of_text (Int n) typed present = absurd (cc)
-of_text (Real x) typed present = absurd (cc)
-of_text (Blob b) typed present = absurd (cc)
+of_text v typed present = absurd (cc)
 
 not_null : (b : Bool) → not b ≡ true → b ≡ false
 not_null false is = refl
@@ -134,10 +128,7 @@ some_row (row ∷ rows) some = (row, inl refl)
 
 same_bytes : (v : Value) (digest : List ℕ) → is_blob digest v ≡ true → v ≡ Blob digest
 same_bytes (Blob bytes) digest is = ap Blob ((bytes_eq-Decides bytes digest).0 is)
-same_bytes Null digest is = absurd (cc)
-same_bytes (Int n) digest is = absurd (cc)
-same_bytes (Real x) digest is = absurd (cc)
-same_bytes (Text t) digest is = absurd (cc)
+same_bytes v digest is = absurd (cc)
 
 no_row : (digest : List ℕ) (trees : Trees) → with_digest digest trees ≡ []
     → tenants_in trees digest ≡ None
@@ -160,19 +151,13 @@ name_of rows digest row is here known few =
     )
 
 same_of_few : (rows : List Row) (a b : Row) → length rows ≤ 1 → Has rows a → Has rows b → a ≡ b
-same_of_few [] a b few here there = absurd here
-same_of_few (row ∷ []) a b few (inl is) (inl also) = is ∙ sym also
-same_of_few (row ∷ []) a b few (inl is) (inr none) = absurd none
-same_of_few (row ∷ []) a b few (inr none) there = absurd none
-same_of_few (row ∷ other ∷ rows) a b few here there = absurd (omega arith)
+same_of_few rows a b few here there =
+    let same = sym (only_of_few rows a few here) ∙ only_of_few rows b few there in cc
 
 same_text : (v : Value) (a b : List ℕ) → is_text a v ≡ true → is_text b v ≡ true → b ≡ a
 same_text (Text text) a b is also =
     sym ((bytes_eq-Decides text b).0 also) ∙ (bytes_eq-Decides text a).0 is
-same_text Null a b is also = absurd (cc)
-same_text (Int n) a b is also = absurd (cc)
-same_text (Real x) a b is also = absurd (cc)
-same_text (Blob bytes) a b is also = absurd (cc)
+same_text v a b is also = absurd (cc)
 
 module _ (schema : Schema) (trees : Trees) (ledger : IsLedger schema) (sound : IsSound schema trees) where
   listed : Has schema.tables directory

@@ -8,8 +8,10 @@ use Rattle.sqlite_store.specs.declared.store.FileStore.{FileStore}
 use Rattle.sqlite.specs.Effect.{Database}
 use Rattle.sqlite.specs.Files.{file_state}
 use Rattle.sqlite.specs.Held.{Held}
-use Rattle.sqlite.specs.State.{State, HasCleanDisk}
+use Rattle.sqlite.specs.State.{State, HasCleanDisk, Survives}
+use Rattle.sqlite_trees.specs.Tree.{Trees}
 use Rattle.ledger_sql.specs.Frames.{Live, Follows}
+use Rattle.stored_ledgers.specs.Calls.{ServesOn}
 use Rattle.stored_ledgers.specs.Directory.{tenants_in}
 use Rattle.stored_ledgers.specs.DueSets.{DueSets}
 use Rattle.stored_ledgers.specs.Looks.{ReadsAtRest}
@@ -33,9 +35,9 @@ holds_here sets s serves clean =
 
 module _ {D : Type 0} (g : disk.Ghosts D) where
   -- a store that answers serves
-  pub serves_open : (ready : Bool) (sets : DueSets) (place : Place D g) (conn : Held (FileStore D g))
+  pub is_serving : (ready : Bool) (sets : DueSets) (place : Place D g) (conn : Held (FileStore D g))
       → place ≡ at.Open conn → ready ≡ true → IsUsableAt ready sets place → IsServing sets (file_state conn)
-  serves_open ready sets place conn is answers usable clean =
+  is_serving ready sets place conn is answers usable clean =
       let here : IsUsableAt ready sets (at.Open conn) = subst (IsUsableAt ready sets) is usable in
       let is_open = here.1 answers clean in
       (is_open, here.0 (clean, is_open))
@@ -44,14 +46,13 @@ module _ {D : Type 0} (g : disk.Ghosts D) where
   pub reads_here : (self : Store D g) (conn : Held (FileStore D g)) → self.place ≡ at.Open conn
       → self.ready ≡ true → IsUsable self → HoldsHere (file_state conn)
   reads_here self conn is answers usable =
-      holds_here self.due (file_state conn) (serves_open self.ready self.due self.place conn is answers usable)
+      holds_here self.due (file_state conn) (is_serving self.ready self.due self.place conn is answers usable)
 
   module _ {T : Type 0} (result : Result T Unavailable) (fault : Bool) (old new : Store D g)
       (conn conn' : Held (FileStore D g)) (old_is : old.place ≡ at.Open conn)
       (new_is : new.place ≡ at.Open conn') (was_ready : old.ready ≡ true)
       (now_ready : new.ready ≡ not fault) (told : IsTrue fault ↔ (result ≡ Err DiskFailed))
-      (usable : IsUsable old)
-      (is_open : HasCleanDisk (file_state conn') → result ≢ Err DiskFailed → IsTrue (file_state conn').is_open) where
+      (usable : IsUsable old) where
     was_usable : IsUsableAt old.ready old.due (at.Open conn)
     was_usable = subst (IsUsableAt old.ready old.due) old_is usable
 
@@ -61,9 +62,10 @@ module _ {D : Type 0} (g : disk.Ghosts D) where
         absurd (both_ways _ (now_ready ∙ ap not yes_fault) ready)
 
     -- a call on the open database, which then rests
-    pub answers_open : (HasCleanDisk (file_state conn') → HasCleanDisk (file_state conn))
+    answers_open : (HasCleanDisk (file_state conn') → HasCleanDisk (file_state conn))
+        → (HasCleanDisk (file_state conn') → result ≢ Err DiskFailed → IsTrue (file_state conn').is_open)
         → (Live (file_state conn') → IsResting new.due (file_state conn')) → AnswersUnless DiskFailed old new result
-    answers_open before rests = record {
+    answers_open before is_open rests = record {
       usable = subst (IsUsableAt new.ready new.due) (sym new_is)
           (rests, λ ready clean. is_open clean (unless_fault ready));
       follows = record {
@@ -78,6 +80,45 @@ module _ {D : Type 0} (g : disk.Ghosts D) where
       refuses = λ shut. absurd (both_ways _ shut was_ready);
     }
 
+    -- so it is of one that changes the database and serves on
+    pub serves_open : {X : Trees → Type 0} → ServesOn DiskFailed new.due (file_state conn') result
+        → Survives (file_state conn) (file_state conn') X → AnswersUnless DiskFailed old new result
+    serves_open serves survives =
+        answers_open (λ clean. omega (arith, survives.clean, clean)) serves.is_open serves.resting
+
+    -- and of one that reads it
+    module _ (same_due : new.due ≡ old.due) (reads : ReadsAtRest DiskFailed (file_state conn) (file_state conn') result) where
+      still_resting : Live (file_state conn') → IsResting new.due (file_state conn')
+      still_resting live =
+          subst (λ sets. IsResting sets (file_state conn')) (sym same_due)
+          (still_rests old.due (file_state conn) (file_state conn')
+          (was_usable.0 (live_before (file_state conn) (file_state conn') reads.follows live)) (reads.same live))
+
+      pub reads_open : ReadsStore old new result
+      reads_open = record {
+        answers = answers_open (clean_before (file_state conn) (file_state conn') reads.follows) reads.is_open still_resting;
+        unchanged = λ live.
+            subst (λ place. OfDatabaseAt (λ before. OfDatabaseAt (λ after. after ≡ before) new.place) place)
+            (sym old_is) (subst (OfDatabaseAt (λ after. after ≡ (file_state conn).now)) (sym new_is)
+            (reads.same (subst IsLiveAt new_is live)).now);
+        same = λ live digest.
+            ap (λ place. tenants_at place digest) new_is
+            ∙ ap (λ (db : Database). tenants_in db.trees digest) (reads.same (subst IsLiveAt new_is live)).now
+            ∙ sym (ap (λ place. tenants_at place digest) old_is);
+        finds = λ honest db may. subst (λ place. may_find_at place db ⊎ ⊥) (sym old_is)
+            (reads.follows.survives.crash (subst IsHonestAt new_is honest) db
+            (subst (λ place. may_find_at place db) new_is may));
+      }
+
+  -- what may be found behind a change of the open database
+  pub finds_open : (After : Database → Trees → Type 0) (place : Place D g) (conn conn' : Held (FileStore D g))
+      → place ≡ at.Open conn → Survives (file_state conn) (file_state conn') (After (file_state conn).now)
+      → HasCleanDisk (file_state conn') → (db : Trees) → (file_state conn').may_leave db
+      → may_find_at place db ⊎ OfDatabaseAt (λ was. After was db) place
+  finds_open After place conn conn' is survives clean db may =
+      subst (λ place. may_find_at place db ⊎ OfDatabaseAt (λ was. After was db) place) (sym is)
+      (survives.crash clean db may)
+
   -- the same of a call that tells the fault in words of its own
   pub answers_as : {T U E : Type 0} (fault : E) (old new : Store D g) (done : Result T Unavailable)
       (result : Result U E) → (result ≡ Err fault ↔ done ≡ Err DiskFailed) → old.ready ≡ true
@@ -89,36 +130,3 @@ module _ {D : Type 0} (g : disk.Ghosts D) where
     unready = λ failed. answers.unready (told.0 failed);
     refuses = λ shut. absurd (both_ways _ shut was_ready);
   }
-
-  module _ {T : Type 0} (result : Result T Unavailable) (fault : Bool) (old new : Store D g)
-      (conn conn' : Held (FileStore D g)) (old_is : old.place ≡ at.Open conn)
-      (new_is : new.place ≡ at.Open conn') (same_due : new.due ≡ old.due)
-      (was_ready : old.ready ≡ true)
-      (now_ready : new.ready ≡ not fault) (told : IsTrue fault ↔ (result ≡ Err DiskFailed))
-      (usable : IsUsable old)
-      (reads : ReadsAtRest DiskFailed (file_state conn) (file_state conn') result) where
-    still_resting : Live (file_state conn') → IsResting new.due (file_state conn')
-    still_resting live =
-        let was : IsUsableAt old.ready old.due (at.Open conn) =
-        subst (IsUsableAt old.ready old.due) old_is usable in
-        subst (λ sets. IsResting sets (file_state conn')) (sym same_due)
-        (still_rests old.due (file_state conn) (file_state conn')
-        (was.0 (live_before (file_state conn) (file_state conn') reads.follows live)) (reads.same live))
-
-    -- a read of the open database
-    pub reads_open : ReadsStore old new result
-    reads_open = record {
-      answers = answers_open result fault old new conn conn' old_is new_is was_ready now_ready told usable reads.is_open
-          (clean_before (file_state conn) (file_state conn') reads.follows) still_resting;
-      unchanged = λ live.
-          subst (λ place. OfDatabaseAt (λ before. OfDatabaseAt (λ after. after ≡ before) new.place) place)
-          (sym old_is) (subst (OfDatabaseAt (λ after. after ≡ (file_state conn).now)) (sym new_is)
-          (reads.same (subst IsLiveAt new_is live)).now);
-      same = λ live digest.
-          ap (λ place. tenants_at place digest) new_is
-          ∙ ap (λ (db : Database). tenants_in db.trees digest) (reads.same (subst IsLiveAt new_is live)).now
-          ∙ sym (ap (λ place. tenants_at place digest) old_is);
-      finds = λ honest db may. subst (λ place. may_find_at place db ⊎ ⊥) (sym old_is)
-          (reads.follows.survives.crash (subst IsHonestAt new_is honest) db
-          (subst (λ place. may_find_at place db) new_is may));
-    }

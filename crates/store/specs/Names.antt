@@ -1,14 +1,13 @@
 -- The names of a store's tenants.
 use Rattle.std.specs.Prelude.{◌≡◌, ◌≢◌, ℕ, List, [], Some, None, unwrap_or}
 use Rattle.sqlite_disk.specs.declared.Disk as disk
-use Rattle.sqlite_trees.specs.Tree.{Trees}
 use Rattle.sqlite.specs.Files.{file_state}
 use Rattle.chain.specs.Ledgers.{Tenants}
 use Rattle.stored_ledgers.specs.Names.{Names, names_in}
 use Rattle.store.specs.declared.place.Place.{Place}
 use Rattle.store.specs.declared.place.Place.TheVariants as at
 use Rattle.store.specs.declared.store.Store.{Store}
-use Rattle.store.specs.Stores.{IsHonest, may_find}
+use Rattle.store.specs.Stores.{FindsBy}
 
 -- each name goes together with the digest of a tenant, and each tenant's digest with one name
 pub record AreNamed (names : Names) (tenants : Tenants) : Type 0 where
@@ -33,8 +32,5 @@ module _ {D : Type 0} {g : disk.Ghosts D} where
   digest_named store name = unwrap_or (names_of store name) []
 
   -- the names in a database that an opening may find
-  pub record FindsNames (store : Store D g) (found : Names) : Type 0 where
-    pub honest : IsHonest store
-    pub db : Trees
-    pub may : may_find store db
-    pub agrees : (name : List ℕ) → found name ≡ names_in db name
+  abbrev pub FindsNames : Store D g → Names → Type 0
+  FindsNames = FindsBy names_in

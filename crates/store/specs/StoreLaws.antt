@@ -9,13 +9,15 @@ use Rattle.sqlite_trees.specs.Tree.{Trees}
 use Rattle.sqlite_schema.specs.declared.schema.Schema.{Schema}
 use Rattle.sqlite.specs.Effect.{Database}
 use Rattle.sqlite.specs.Files.{file_state}
+use Rattle.sqlite.specs.Held.{Held}
+use Rattle.sqlite_store.specs.declared.store.FileStore.{FileStore}
 use Rattle.ledger_sql.specs.TableRows.{directory_rows}
 use Rattle.stored_ledgers.specs.Directory.{tenants_in, KeepsDirectory}
 use Rattle.stored_ledgers.specs.DueSets.{DueSets}
 use Rattle.stored_ledgers.specs.Outcomes.{KeepsTables}
 use Rattle.stored_ledgers.specs.RoundLaws.{valid_in}
 use Rattle.store.specs.Stores.{IsUsable, IsUsableAt, IsLive, IsLiveAt, IsHonest, IsHonestAt, StoreFollows}
-use Rattle.store.specs.Stores.{tenants_of, tenants_at, may_find, may_find_at, FindsTenants, StoreFinds}
+use Rattle.store.specs.Stores.{tenants_of, tenants_at, may_find, may_find_at, FindsBy, FindsTenants, StoreFinds}
 use Rattle.store.specs.Stores.{FindsAt, IsSettledStore, IsSettledAt, Continues, OfDatabaseAt}
 use Rattle.store.specs.Stores.{AreKeptAt, StaysFound}
 use Rattle.store.specs.declared.place.Place.{Place}
@@ -159,37 +161,46 @@ module _ {D : Type 0} {g : disk.Ghosts D} where
   pub valid_tenants : (a : Store D g) → IsLive a → IsUsable a → AreValid (tenants_of a)
   valid_tenants a live usable = valid_at a.ready a.due a.place live usable
 
-  settled_at :
-      (ready : Bool) (sets : DueSets) (place : Place D g) (db : Trees) → IsSettledAt place →
-      IsUsableAt ready sets place → IsLiveAt place → may_find_at place db →
-      (digest : List ℕ) → tenants_in db digest ≡ tenants_at place digest
-  settled_at ready sets (at.Open conn) db settled usable live may digest =
-      ap (λ (trees : Trees). tenants_in trees digest)
-      (settled.only live.1 db may
-      ∙ sym (ap (λ (now : Database). now.trees) (usable.0 live).quiet.settled))
-  settled_at ready sets (at.Shut files) db settled usable live may digest = absurd live
+  -- what is read of a database, as it is shown of the place where that is open
+  module _ {X : Type 0} (read : Trees → List ℕ → X) (shown : Place D g → List ℕ → X)
+      (same : (conn : Held (FileStore D g)) → shown (at.Open conn) ≡ read (file_state conn).now.trees) where
+    settled_at : (ready : Bool) (sets : DueSets) (place : Place D g) (db : Trees) → IsSettledAt place
+        → IsUsableAt ready sets place → IsLiveAt place → may_find_at place db
+        → (key : List ℕ) → read db key ≡ shown place key
+    settled_at ready sets (at.Open conn) db settled usable live may key =
+        ap (λ (trees : Trees). read trees key)
+        (settled.only live.1 db may
+        ∙ sym (ap (λ (now : Database). now.trees) (usable.0 live).quiet.settled))
+        ∙ sym (ap (λ all. all key) (same conn))
+    settled_at ready sets (at.Shut files) db settled usable live may key = absurd live
 
-  -- while a store is open, an opening finds what is there
+    -- while a store is open, an opening finds what is there
+    pub finds_shown : (store : Store D g) → IsSettledStore store → IsUsable store → IsLive store
+        → (found : List ℕ → X) → FindsBy read store found
+        → (key : List ℕ) → found key ≡ shown store.place key
+    finds_shown store settled usable live found f key =
+        f.agrees key
+        ∙ settled_at store.ready store.due store.place f.db settled usable live f.may key
+
+    -- and what one has found was to be found
+    pub opened_shown : (old : Store D g) (place : Place D g) → IsHonest old
+        → FindsAt (may_find old) place → ∥ FindsBy read old (shown place) ∥₁
+    opened_shown old (at.Open conn) honest finds =
+        ∥∥₁_map finds.1 (λ may. record {
+          honest = honest;
+          db = (file_state conn).now.trees;
+          may = may;
+          agrees = λ key. ap (λ all. all key) (same conn);
+        })
+    opened_shown old (at.Shut files) honest finds = absurd finds
+
+  -- so each machine is found
   pub finds_itself :
       (store : Store D g) → IsSettledStore store → IsUsable store → IsLive store →
       (found : Tenants) → FindsTenants store found → KeepsAll (tenants_of store) found
-  finds_itself store settled usable live found f digest =
-      f.agrees digest
-      ∙ settled_at store.ready store.due store.place f.db settled usable live f.may digest
+  finds_itself = finds_shown tenants_in tenants_at (λ conn. refl)
 
-  opened_at :
-      (old : Store D g) (place : Place D g) → IsHonest old → FindsAt (may_find old) place →
-      ∥ FindsTenants old (tenants_at place) ∥₁
-  opened_at old (at.Open conn) honest finds =
-      ∥∥₁_map finds.1 (λ may. record {
-        honest = honest;
-        db = (file_state conn).now.trees;
-        may = may;
-        agrees = λ digest. refl;
-      })
-  opened_at old (at.Shut files) honest finds = absurd finds
-
-  honest_at : (place : Place D g) → IsLiveAt place → IsHonestAt place
+  pub honest_at : (place : Place D g) → IsLiveAt place → IsHonestAt place
   honest_at (at.Open conn) live = live.0
   honest_at (at.Shut files) live = absurd live
 
@@ -198,9 +209,10 @@ module _ {D : Type 0} {g : disk.Ghosts D} where
       (old new : Store D g) → (IsHonest new → StoreFinds new (may_find old)) →
       (IsHonest new → IsHonest old) → IsLive new → ∥ FindsTenants old (tenants_of new) ∥₁
   opened_is_found old new finds honest live =
-      let now = honest_at new.place live in opened_at old new.place (honest now) (finds now)
+      let now = honest_at new.place live in
+      opened_shown tenants_in tenants_at (λ conn. refl) old new.place (honest now) (finds now)
 
-  found_live_at :
+  pub found_live_at :
       (X : Trees → Type 0) (place : Place D g) → IsHonestAt place → FindsAt X place → IsLiveAt place
   found_live_at X (at.Open conn) honest finds = (honest, finds.0)
   found_live_at X (at.Shut files) honest finds = absurd finds

@@ -83,12 +83,16 @@ module _ {D : Type 0} {g : disk.Ghosts D} where
   abbrev pub may_find : Store D g → Trees → Type 0
   may_find store = may_find_at store.place
 
-  -- the machines of a database that an opening may find
-  pub record FindsTenants (store : Store D g) (found : Tenants) : Type 0 where
+  -- what is read of a database that an opening may find; and so each tenant's machine
+  pub record FindsBy {X : Type 0} (read : Trees → List ℕ → X) (store : Store D g)
+      (found : List ℕ → X) : Type 0 where
     pub honest : IsHonest store
     pub db : Trees
     pub may : may_find store db
-    pub agrees : (digest : List ℕ) → found digest ≡ tenants_in db digest
+    pub agrees : (key : List ℕ) → found key ≡ read db key
+
+  abbrev pub FindsTenants : Store D g → Tenants → Type 0
+  FindsTenants = FindsBy tenants_in
 
   -- the store is open, and its database is one of these
   abbrev pub FindsAt : (Trees → Type 0) → Place D g → Type 0

@@ -1,6 +1,7 @@
 -- What a new tenant's rows leave of a database.
-use Rattle.std.proofs.Common.{◌≡◌, ◌≢◌, ◌<◌, ℕ, ℤ, pos, None, Some, drop, List, [], ◌∷◌, ◌++◌, map, filter, Ok, Err, refl, sym, ap, subst, ◌∙◌, arith}
+use Rattle.std.proofs.Common.{◌≡◌, ◌≢◌, ◌<◌, ℕ, ℤ, pos, Bool, true, false, Option, None, Some, drop, List, [], ◌∷◌, ◌++◌, map, filter, Ok, Err, refl, sym, ap, subst, ◌∙◌, arith}
 use Rattle.std.specs.List.{AllByRecursion}
+use Rattle.std.specs.Bool.{then_some}
 use Rattle.std.specs.List.Sorted.{IsPermutation}
 use Rattle.std.proofs.lemmas.List.Sorted.{IsPermutation-refl}
 use Rattle.records.specs.Machine.{new_machine}
@@ -21,13 +22,12 @@ use Rattle.ledger_sql.specs.TableRows.{directory_rows, clock_rows, is_own, is_in
 use Rattle.ledger_sql.specs.Values.{directory_values, clock_values}
 use Rattle.stored_tables.specs.Frames.{KeepsRows, AreNumbered}
 use Rattle.stored_tables.specs.Holds.{HoldsMachine}
+use Rattle.stored_ledgers.specs.Directory.{with_digest, with_name}
 use Rattle.stored_ledgers.specs.declared.joining.Taken.{Taken}
 use Rattle.stored_ledgers.specs.declared.joining.Taken.TheVariants.{Name, Digest}
-use Rattle.stored_ledgers.specs.DueSets.{DueSets}
 use Rattle.stored_ledgers.specs.Joining.{Joins, IsJoined, Joined, HasJoined, AreTaken, joining_answer}
 use Rattle.stored_ledgers.specs.Ledger.{HoldsLedgers}
-use Rattle.stored_ledgers.specs.Resting.{CanServe, IsSame}
-use Rattle.stored_ledgers.specs.Transactions.{Answer, IfAnswered, UnlessMade, MayLeave}
+use Rattle.stored_ledgers.proofs.ServingLemmas.{IsTenantChange}
 use Rattle.stored_ledgers.proofs.TakenLemmas.{only_row}
 
 -- all tables of ours but one stay
@@ -62,17 +62,6 @@ rest_of tree old new ledger others some few =
       history = all.1.1.1.1.1.1.1.0 (λ e. omega (arith, few, e));
       failed = all.1.1.1.1.1.1.1.1.0 (λ e. omega (arith, few, e));
     }
-
-rest_then : (a b c : Trees) → RestStays a b → RestStays b c → RestStays a c
-rest_then a b c f g = record {
-  version = g.version ∙ f.version;
-  accounts = g.accounts ∙ f.accounts;
-  transfers = g.transfers ∙ f.transfers;
-  balances = g.balances ∙ f.balances;
-  statuses = g.statuses ∙ f.statuses;
-  history = g.history ∙ f.history;
-  failed = g.failed ∙ f.failed;
-}
 
 still : (old new : List Row) → new ≡ old → IsNumbered old → IsNumbered new
 still old new same rise = subst IsNumbered (sym same) rise
@@ -154,15 +143,14 @@ joined_rows number name digest s0 s1 s2 s3 same ledgers entry clock =
     let one = rest_of 1 s1 s2 ledger1 entry.tables (omega arith) (omega arith) in
     let two = rest_of 4 s2 s3 ledger2 clock.tables (omega arith) (omega arith) in
     let back : (t : ℕ) → s1.now.trees t ≡ s0.now.trees t = λ t. ap (λ (db : Database). db.trees t) same in
-    let rest = rest_then s1.now.trees s2.now.trees s3.now.trees one two in
     let all : RestStays s0.now.trees s3.now.trees = record {
-      version = rest.version ∙ back 0;
-      accounts = rest.accounts ∙ back 5;
-      transfers = rest.transfers ∙ back 8;
-      balances = rest.balances ∙ back 11;
-      statuses = rest.statuses ∙ back 13;
-      history = rest.history ∙ back 15;
-      failed = rest.failed ∙ back 17;
+      version = two.version ∙ one.version ∙ back 0;
+      accounts = two.accounts ∙ one.accounts ∙ back 5;
+      transfers = two.transfers ∙ one.transfers ∙ back 8;
+      balances = two.balances ∙ one.balances ∙ back 11;
+      statuses = two.statuses ∙ one.statuses ∙ back 13;
+      history = two.history ∙ one.history ∙ back 15;
+      failed = two.failed ∙ one.failed ∙ back 17;
     } in
     let clocks : s2.now.trees 4 ≡ s0.now.trees 4 =
     (stay 1 s1 s2 ledger1 entry.tables).1.1.0 (λ e. absurd (omega arith)) ∙ back 4 in
@@ -211,30 +199,35 @@ joined_trees number name digest old new trees same joins =
 pub starts_as_ours : (schema : Schema) → IsLedger schema → StartsAs after_tenant.tables schema
 starts_as_ours schema ledger = (drop 2 ledger_schema.tables ++ ledger.more, ledger.tables)
 
--- what the adding of a tenant is told, and what it leaves
-pub has_joined : (name digest : List ℕ) (sets : DueSets) (old new : State)
-    (answer : Answer (Unit {0}) Taken)
-    → IfAnswered answer (λ done. (AreTaken name digest old.now.trees None
-    × IsJoined name digest old.now new.now) × CanServe sets new.now)
-    (λ taken. AreTaken name digest old.now.trees (Some taken))
-    → UnlessMade answer (IsSame old new)
-    → HasJoined name digest old.now new.now (joining_answer answer)
-has_joined name digest sets old new (Ok (Ok done)) told same = told.0
-has_joined name digest sets old new (Ok (Err Name)) told same = (told, same.now)
-has_joined name digest sets old new (Ok (Err Digest)) told same = (told, same.now)
-has_joined name digest sets old new (Err why) told same = same.now
+-- where nobody has the name it is told whether somebody has the digest
+pub digest_told : (name digest : List ℕ) (trees : Trees) (there : Bool) (taken : Option Taken)
+    → with_name name trees ≡ [] → (there ≡ true → with_digest digest trees ≢ [])
+    → (there ≡ false → with_digest digest trees ≡ []) → taken ≡ then_some there Digest
+    → AreTaken name digest trees taken
+digest_told name digest trees true taken none some free is =
+    subst (AreTaken name digest trees) (sym is) (none, some refl)
+digest_told name digest trees false taken none some free is =
+    subst (AreTaken name digest trees) (sym is) (none, free refl)
 
--- what it may leave in the files
-pub left_joined : (name digest : List ℕ) (old : Database) (trees : Trees)
-    → MayLeave (λ (done : Unit {0}) (sets : DueSets) new. (AreTaken name digest old.trees None
-    × IsJoined name digest old new) × CanServe sets new) trees
-    → Joined name digest old trees
-left_joined name digest old trees left =
-    let joined = left.done.0.1 in (
-      left.done.0.0,
-      record {
-        number = joined.number;
-        least = joined.least;
-        joins = joined_trees joined.number name digest old left.after trees left.is joined.joins;
-      },
-    )
+-- what the adding of a tenant is told, and what it may leave in the files
+pub joining_change : (name digest : List ℕ)
+    → IsTenantChange joining_answer (HasJoined name digest) (Joined name digest)
+    (λ old new. AreTaken name digest old.trees None × IsJoined name digest old new)
+    (λ old taken. AreTaken name digest old.trees (Some taken))
+joining_change name digest = record {
+  made = λ old new joined. joined;
+  refused = λ old taken. elim taken as (λ t. AreTaken name digest old.trees (Some t)
+      → HasJoined name digest old old (joining_answer (Ok (Err t)))) [
+        | Name ↦ λ is. (is, refl)
+        | Digest ↦ λ is. (is, refl)
+      ];
+  failed = λ old why. refl;
+  left = λ old new trees joined is. (
+    joined.0,
+    record {
+      number = joined.1.number;
+      least = joined.1.least;
+      joins = joined_trees joined.1.number name digest old new trees is joined.1.joins;
+    },
+  );
+}

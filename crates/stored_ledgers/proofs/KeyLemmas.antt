@@ -1,5 +1,6 @@
 -- What the change of a tenant's key leaves of a database.
-use Rattle.std.proofs.Common.{◌≡◌, ◌≢◌, ◌≤◌, ℕ, ℤ, inl, inr, Some, List, [], ◌∷◌, length, Ok, Err, refl, sym, ap, subst, arith}
+use Rattle.std.proofs.Common.{◌≡◌, ◌≢◌, ◌≤◌, ℕ, ℤ, inl, inr, Bool, false, Option, Some, option_map, List, [], ◌∷◌, length, Ok, Err, refl, sym, ap, subst, arith}
+use Rattle.std.specs.Str.{bytes_eq}
 use Rattle.std.specs.List.Sorted.{IsPermutation}
 use Rattle.std.specs.String.{string_bytes}
 use Rattle.std.proofs.lemmas.Slice.Eq.{bytes_eq-Decides}
@@ -7,7 +8,8 @@ use Rattle.rows.specs.declared.all_rows.DirectoryRow.{DirectoryRow}
 use Rattle.sqlite_trees.specs.Tree.{Trees}
 use Rattle.sqlite_value.specs.Order.{column}
 use Rattle.sqlite.specs.Effect.{Database}
-use Rattle.sqlite.specs.State.{State}
+use Rattle.sqlite.specs.State.{State, HasCleanDisk}
+use Rattle.ledger_sql.specs.Calls.{LeavesFound}
 use Rattle.ledger_sql.specs.Effects.{Picks, SetsDigest}
 use Rattle.ledger_sql.specs.Rowids.{IsNumbered}
 use Rattle.ledger_sql.specs.StrangerLaws.{strangers_stay}
@@ -16,18 +18,19 @@ use Rattle.ledger_sql.specs.Values.{directory_values}
 use Rattle.stored_ledgers.specs.Directory.{with_name, with_digest, first_digest, digest_in}
 use Rattle.stored_ledgers.specs.DirectoryLaws.{filter_head}
 use Rattle.stored_ledgers.specs.DueSets.{DueSets}
-use Rattle.stored_ledgers.specs.declared.keying.KeyRefused.{KeyRefused}
 use Rattle.stored_ledgers.specs.declared.keying.KeyRefused.TheVariants.{NoTenant, DigestTaken}
 use Rattle.stored_ledgers.specs.Keying.{IsKeyed, Keyed, HasKeyed, IsKeyRefused, keying_answer, without_number}
 use Rattle.stored_ledgers.specs.Ledger.{HoldsLedgers}
-use Rattle.stored_ledgers.specs.Resting.{CanServe, IsSame}
-use Rattle.stored_ledgers.specs.Transactions.{Answer, IfAnswered, UnlessMade, MayLeave}
+use Rattle.stored_ledgers.specs.Resting.{CanServe}
+use Rattle.stored_ledgers.specs.Transactions.{HasOnlyBegun}
+use Rattle.stored_ledgers.proofs.JudgedLemmas.{was_found}
 use Rattle.stored_ledgers.proofs.JoinLemmas.{stay, rest_of, numbered_again, kept, clock_kept}
 use Rattle.stored_ledgers.proofs.KeyedLemmas.{one_apart, one_numbered, ledgers_keyed, sets_keyed}
+use Rattle.stored_ledgers.proofs.ServingLemmas.{IsTenantChange}
 use Rattle.stored_ledgers.proofs.TenantLemmas.{only_picked}
 
 -- the row that is found by a name has that name
-pub named_row : (name : List ℕ) (trees : Trees) (row : DirectoryRow)
+named_row : (name : List ℕ) (trees : Trees) (row : DirectoryRow)
     → length (with_name name trees) ≤ 1
     → Picks (with_name name trees) (Some (directory_values row.number (string_bytes row.name) row.digest))
     → with_name name trees ≡ directory_values row.number name row.digest ∷ []
@@ -36,6 +39,31 @@ named_row name trees row few picks =
     let passes = (filter_head (λ row. is_text name (column row 1)) (directory_rows trees) _ [] one).1 in
     let is : string_bytes row.name ≡ name = (bytes_eq-Decides (string_bytes row.name) name).0 passes in
     subst (λ n. with_name name trees ≡ directory_values row.number n row.digest ∷ []) is one
+
+-- so it was looked up in a transaction that has only begun
+pub found_named : {E : Type 0} {Fits : Option DirectoryRow → Type 0} (name text : List ℕ)
+    (sets : DueSets) (old read : State) (found : Option DirectoryRow) (row : DirectoryRow)
+    → text ≡ name → found ≡ Some row
+    → LeavesFound {E = E} Fits (λ trees found. Picks (with_name text trees) (option_map (λ row.
+    directory_values row.number (string_bytes row.name) row.digest) found)) old read (Ok found)
+    → (HasCleanDisk old → HasOnlyBegun (CanServe sets) old) → HasCleanDisk read
+    → (read.now ≡ old.now) × CanServe sets old.now
+    × (with_name name old.now.trees ≡ directory_values row.number name row.digest ∷ [])
+found_named name text sets old read found row same is finds begun clean =
+    let seen = was_found old read found finds clean in
+    let serves = (begun seen.0).needs in (
+      seen.1,
+      serves,
+      named_row name old.now.trees row (serves.ledgers.distinct.names name)
+          (subst (λ found. Picks (with_name name old.now.trees) (option_map (λ row. directory_values row.number
+          (string_bytes row.name) row.digest) found)) is (rw same at (seen.2 serves.ledgers.schema))),
+    )
+
+-- a test has told two digests apart
+pub told_apart : (same : Bool) (was digest : List ℕ) → same ≡ bytes_eq was digest → same ≡ false
+    → was ≢ digest
+told_apart same was digest is differs equal =
+    let both = (bytes_eq-Decides was digest).1 equal in cc
 
 -- the same key again
 pub same_key : (name digest : List ℕ) (db : Database) (number : ℤ) (was : List ℕ) → HoldsLedgers db
@@ -119,24 +147,20 @@ pub other_digest : (name digest : List ℕ) (trees : Trees) (number : ℤ) (was 
 unfolding digest_in
 other_digest name digest trees number was named differs = (was, ap first_digest named, differs)
 
--- what the change of a key is told, and what it leaves
-pub has_keyed : (name digest : List ℕ) (sets : DueSets) (old new : State)
-    (answer : Answer (Unit {0}) KeyRefused)
-    → IfAnswered answer (λ done. IsKeyed name digest old.now new.now × CanServe sets new.now)
-    (IsKeyRefused name digest old.now.trees)
-    → UnlessMade answer (IsSame old new)
-    → HasKeyed name digest old.now new.now (keying_answer answer)
-has_keyed name digest sets old new (Ok (Ok done)) told same = told.0
-has_keyed name digest sets old new (Ok (Err NoTenant)) told same = (told, same.now)
-has_keyed name digest sets old new (Ok (Err DigestTaken)) told same = (told, same.now)
-has_keyed name digest sets old new (Err why) told same = same.now
-
--- what it may leave in the files
-pub left_keyed : (name digest : List ℕ) (old : Database) (trees : Trees)
-    → MayLeave (λ (done : Unit {0}) (sets : DueSets) new. IsKeyed name digest old new × CanServe sets new) trees
-    → Keyed name digest old trees
-left_keyed name digest old trees left =
-    let keyed = left.done.0 in
-    let same : left.after ≡ record { schema = old.schema; trees = trees } =
-    λ i. record { schema = keyed.schema i; trees = sym left.is i } in
-    subst (IsKeyed name digest old) same keyed
+-- what the change of a key is told, and what it may leave in the files
+pub keying_change : (name digest : List ℕ)
+    → IsTenantChange keying_answer (HasKeyed name digest) (Keyed name digest)
+    (IsKeyed name digest) (λ old. IsKeyRefused name digest old.trees)
+keying_change name digest = record {
+  made = λ old new keyed. keyed;
+  refused = λ old why. elim why as (λ w. IsKeyRefused name digest old.trees w
+      → HasKeyed name digest old old (keying_answer (Ok (Err w)))) [
+        | NoTenant ↦ λ is. (is, refl)
+        | DigestTaken ↦ λ is. (is, refl)
+      ];
+  failed = λ old why. refl;
+  left = λ old new trees keyed is.
+      let same : new ≡ record { schema = old.schema; trees = trees } =
+      λ i. record { schema = keyed.schema i; trees = sym is i } in
+      subst (IsKeyed name digest old) same keyed;
+}

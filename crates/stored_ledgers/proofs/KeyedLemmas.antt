@@ -17,7 +17,7 @@ use Rattle.ledger_sql.specs.Values.{directory_values}
 use Rattle.stored_tables.specs.Holds.{HoldsMachine}
 use Rattle.stored_tables.specs.MachineOf.{machine_of}
 use Rattle.stored_ledgers.specs.Directory.{with_number, with_name, with_digest, first_number, number_of, tenants_in}
-use Rattle.stored_ledgers.specs.DirectoryLaws.{Among, filter_head}
+use Rattle.stored_ledgers.specs.DirectoryLaws.{filter_head, only_among}
 use Rattle.stored_ledgers.specs.DueSets.{DueSet, DueSets, CoversMachine, AreCovered}
 use Rattle.stored_ledgers.specs.Keying.{IsKeyed, MovesKey, without_number}
 use Rattle.stored_ledgers.specs.Ledger.{HoldsLedgers}
@@ -53,13 +53,6 @@ one_apart p x (y ∷ ys) one =
           (IsPermutation-cons y (x ∷ rest) ys (one_apart p x ys e))
     ] one
 
--- at most one row is that row, if it is among them
-one_among : (rows : List Row) (row : Row) → length rows ≤ 1 → Among row rows → rows ≡ row ∷ []
-one_among [] row few is = absurd is
-one_among (other ∷ []) row few (inl same) = ap (λ r. r ∷ []) (sym same)
-one_among (other ∷ []) row few (inr later) = absurd later
-one_among (other ∷ another ∷ rows) row few is = absurd (omega arith)
-
 -- the tenant with a name is the one with its number
 pub one_numbered : (name : List ℕ) (number : ℤ) (was : List ℕ) (trees : Trees)
     → length (with_number number trees) ≤ 1
@@ -68,7 +61,7 @@ pub one_numbered : (name : List ℕ) (number : ℤ) (was : List ℕ) (trees : Tr
 one_numbered name number was trees few named =
     let row = directory_values number name was in
     let among = (filter_head _ (directory_rows trees) row [] named).0 in
-    one_among (with_number number trees) row few
+    only_among (with_number number trees) row few
     (among_filter (λ row. is_int number (column row 0)) (directory_rows trees) row among
     (is_number (column row 0) number refl))
 

@@ -22,7 +22,7 @@ use Rattle.stored_tables.specs.Holds.{HoldsMachine}
 use Rattle.stored_tables.specs.MachineOf.{machine_of}
 use Rattle.stored_ledgers.specs.declared.directory.ListedTenant.{ListedTenant}
 use Rattle.stored_ledgers.specs.Directory.{AreDistinct, with_digest, first_number, number_of, tenants_in}
-use Rattle.stored_ledgers.specs.DirectoryLaws.{Among}
+use Rattle.stored_ledgers.specs.DirectoryLaws.{Among, only_among}
 use Rattle.stored_ledgers.specs.Ledger.{HoldsLedgers}
 use Rattle.stored_ledgers.specs.Listing.{AreListed, AreThose, IsThat, IsTenantOf, HasItsClock, IsMadeOf, by_name, listed_values, without_its_number}
 use Rattle.stored_ledgers.specs.Resting.{HoldsHere, IsQuiet, IsSame}
@@ -32,12 +32,6 @@ use Rattle.stored_ledgers.proofs.TenantLemmas.{among_filter, only_picked}
 abbrev pub row_values : DirectoryRow → Row
 row_values row = directory_values row.number (string_bytes row.name) row.digest
 
-alone : (rows : List Row) (row : Row) → length rows ≤ 1 → Among row rows → rows ≡ row ∷ []
-alone [] row few is = absurd is
-alone (other ∷ []) row few (inl same) = ap (λ r. r ∷ []) (sym same)
-alone (other ∷ []) row few (inr later) = absurd later
-alone (other ∷ another ∷ rows) row few is = absurd (omega arith)
-
 -- a row of the directory is found by its digest
 row_found : (trees : Trees) (row : DirectoryRow) → AreDistinct trees
     → Among (row_values row) (directory_rows trees) → IsTenantOf trees row
@@ -45,7 +39,7 @@ unfolding number_of
 row_found trees row distinct among =
     let passes = among_filter (λ r. is_blob row.digest (column r 2)) (directory_rows trees) (row_values row)
     among ((bytes_eq-Decides row.digest row.digest).1 refl) in
-    ap first_number (alone (with_digest row.digest trees) (row_values row) (distinct.digests row.digest) passes)
+    ap first_number (only_among (with_digest row.digest trees) (row_values row) (distinct.digests row.digest) passes)
 
 -- each row is among them all
 module _ (trees : Trees) (distinct : AreDistinct trees) where
@@ -148,20 +142,12 @@ module _ (trees : Trees) where
   }
 
 -- a connection that only read
-pub still_same : (a b : State) → IsUnchanged a b → IsQuiet a → IsSame a b
+still_same : (a b : State) → IsUnchanged a b → IsQuiet a → IsSame a b
 still_same a b same quiet = record {
   now = same.0.now_is;
   committed = same.0.committed_is;
   mode = same.0.mode ∙ quiet.mode;
   unmarked = same.2 ∙ quiet.unmarked;
-}
-
-pub same_then : (a b c : State) → IsSame a b → IsSame b c → IsSame a c
-same_then a b c f g = record {
-  now = g.now ∙ f.now;
-  committed = g.committed ∙ f.committed;
-  mode = g.mode;
-  unmarked = g.unmarked;
 }
 
 pub here_still : (a b : State) → Follows a b → (HasCleanDisk b → IsUnchanged a b) → HoldsHere a

@@ -5,7 +5,8 @@ use Rattle.std.specs.Ordering.{int_cmp, is_eq}
 use Rattle.std.proofs.lemmas.Int.{to_z-of_z}
 use Rattle.records.specs.Machine.{Machine}
 use Rattle.sqlite.specs.Effect.{Database}
-use Rattle.sqlite.specs.State.{State}
+use Rattle.sqlite.specs.State.{State, Survives}
+use Rattle.sqlite.proofs.StateLemmas.{survives_weaker}
 use Rattle.sqlite_trees.specs.Tree.{Trees}
 use Rattle.chain.specs.Ledgers.{IsDone, KeepsAll}
 use Rattle.sqlite_value.specs.declared.value.Value.TheVariants.{Int}
@@ -144,7 +145,7 @@ keeps_tables old new same = record {
 }
 
 -- what a batch may leave in the files is the database after the whole of it
-pub left_after : {O : Type 0} (gives : Machine → O → Machine → Type 0) (digest : List ℕ)
+left_after : {O : Type 0} (gives : Machine → O → Machine → Type 0) (digest : List ℕ)
     (old : Database) (trees : Trees)
     → MayLeave (λ (worked : Worked O) sets new.
     IsBatchTimed gives digest old new worked.output worked.past × CanServe sets new) trees
@@ -159,3 +160,10 @@ left_after gives digest old trees left =
       done = subst (λ t. IsDone gives digest (tenants_in old.trees) (tenants_in t) left.output.output)
           (sym left.is) done.done;
     }
+
+pub after_batch : {O : Type 0} (gives : Machine → O → Machine → Type 0) (digest : List ℕ)
+    (old new : State) → Survives old new (MayLeave (λ (worked : Worked O) sets now.
+    IsBatchTimed gives digest old.now now worked.output worked.past × CanServe sets now))
+    → Survives old new (IsAfterBatch gives digest old.now)
+after_batch gives digest old new survives =
+    survives_weaker _ _ _ _ (λ clean trees left. left_after gives digest old.now trees left) survives

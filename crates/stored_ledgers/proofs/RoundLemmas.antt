@@ -2,7 +2,8 @@
 use Rattle.std.proofs.Common.{◌≡◌, List, [], sym, subst, arith}
 use Rattle.chain.specs.Ledgers.{Tenants}
 use Rattle.sqlite.specs.Effect.{Database}
-use Rattle.sqlite.specs.State.{State}
+use Rattle.sqlite.specs.State.{State, Survives}
+use Rattle.sqlite.proofs.StateLemmas.{survives_weaker}
 use Rattle.sqlite_trees.specs.Tree.{Trees}
 use Rattle.stored_ledgers.specs.Directory.{tenants_in}
 use Rattle.stored_ledgers.specs.DueSets.{DueSets}
@@ -35,7 +36,7 @@ none_past pasts trees none =
     subst (λ (all : List Past). ArePast all trees) (sym none) (λ k d below. absurd (omega (arith, below)))
 
 -- what a round may leave in the files is the database after the whole of it
-pub left_round : {O : Type 0} (gives : Tenants → O → Tenants → Type 0) (old : Database) (trees : Trees)
+left_round : {O : Type 0} (gives : Tenants → O → Tenants → Type 0) (old : Database) (trees : Trees)
     → MayLeave (λ (done : RoundDone O) sets new.
     IsRoundDone gives old new done.output done.pasts.items × CanServe sets new) trees
     → IsAfterRound gives old trees
@@ -49,3 +50,10 @@ left_round gives old trees left =
       done = subst (λ t. gives (tenants_in old.trees) left.output.output (tenants_in t))
           (sym left.is) done.done;
     }
+
+pub after_round : {O : Type 0} (gives : Tenants → O → Tenants → Type 0) (old new : State)
+    → Survives old new (MayLeave (λ (done : RoundDone O) sets now.
+    IsRoundDone gives old.now now done.output done.pasts.items × CanServe sets now))
+    → Survives old new (IsAfterRound gives old.now)
+after_round gives old new survives =
+    survives_weaker _ _ _ _ (λ clean trees left. left_round gives old.now trees left) survives

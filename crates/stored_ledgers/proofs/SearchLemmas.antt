@@ -1,11 +1,13 @@
 -- The search over the sets of all tenants.
-use Rattle.std.proofs.Common.{◌≡◌, inl, inr, ℕ, ◌<◌, ℤ, ◌<ℤ◌, ◌≤ℤ◌, Bool, true, false, cond, List, [], ◌∷◌, ◌++◌, filter, length, Less, is_gt, Some, refl, sym, ap, subst, ◌∙◌, arith}
+use Rattle.std.proofs.Common.{◌≡◌, inl, inr, ℕ, ◌<◌, ℤ, ◌<ℤ◌, ◌≤ℤ◌, Bool, true, false, cond, List, [], ◌∷◌, ◌++◌, filter, map, length, Option, Less, is_gt, Some, refl, sym, ap, subst, ◌∙◌, arith}
 use Rattle.std.specs.BTreeMap.{get, IsOrdered}
 use Rattle.std.specs.BTreeMap.Range.{range_contains, entries_between, IsEntryInRange}
 use Rattle.std.specs.declared.ops.Bound.TheVariants.{Included, Unbounded}
 use Rattle.std.specs.List.{All, AllByRecursion}
 use Rattle.std.specs.List.Sorted.{IsStrictlySortedBy}
+use Rattle.std.specs.Iterator.{Yields}
 use Rattle.std.specs.Map.{keys_of}
+use Rattle.std.specs.Map.Iter.{TakesFirst}
 use Rattle.std.specs.Ordering.{int_cmp}
 use Rattle.std.proofs.lemmas.Cmp.{int_ranked, by_ranked, int_cmp_total}
 use Rattle.std.proofs.lemmas.Int.{ints}
@@ -16,6 +18,7 @@ use Rattle.std.proofs.lemmas.Map.Keys.{sorted_head, sorted_tail}
 use Rattle.std.proofs.lemmas.Map.Lookups.{exact_signed}
 use Rattle.std.proofs.lemmas.Map.Views.{range_contains-from_IsInRange, btree_map_get_iff}
 use Rattle.stored_ledgers.specs.DueSets.{DueSet, DueSets}
+use Rattle.stored_ledgers.proofs.SeenLemmas.{seen_more}
 use Rattle.stored_ledgers.specs.declared.due_search.Search.{Search}
 use Rattle.stored_ledgers.specs.declared.due_search.Piece.{Piece}
 use Rattle.stored_ledgers.specs.Overdue.{IsOverdue, IsNotOverdue, IsDuePiece, BeginsSearch, number_behind, settled_to, ArePassed, ArePassedBefore, FindsOverdue, FindsNone}
@@ -241,10 +244,30 @@ still_settled old self number n released same is told =
     told ∙ ap (λ s. settled_to s n) same ∙ ap (settled_to old) is
 
 -- what a range says of its entries, it says of all from its start
-pub in_range : (start from : ℤ) (due : DueSets) (found : List (ℤ × DueSet)) → start ≡ from
+in_range : (start from : ℤ) (due : DueSets) (found : List (ℤ × DueSet)) → start ≡ from
     → found ≡ entries_on start due
     → All (IsEntryInRange int_cmp (Included start) Unbounded due) found
     → All (IsEntryInRange int_cmp (Included from) Unbounded due) (entries_on from due)
 in_range start from due found same is all =
     subst (λ n. All (IsEntryInRange int_cmp (Included n) Unbounded due) (entries_on n due)) same
     (subst (All (IsEntryInRange int_cmp (Included start) Unbounded due)) is all)
+
+-- a walk over a range sees all entries from its start
+pub walks_all : (start from : ℤ) (due : DueSets) (found walked : List (ℤ × DueSet)) → start ≡ from
+    → walked ≡ found → found ≡ entries_on start due → walked ≡ entries_on from due
+walks_all start from due found walked same walks is =
+    walks ∙ is ∙ ap (λ (n : ℤ). entries_on n due) same
+
+-- and comes to an entry behind those that were seen
+pub comes_to : {A : Type 0} (shows : A → ℤ × DueSet) (start from : ℤ) (due : DueSets)
+    (found walked left rest : List (ℤ × DueSet)) (seen : List A) (next : A) (r : Option A)
+    → start ≡ from → walked ≡ found → found ≡ entries_on start due
+    → All (IsEntryInRange int_cmp (Included start) Unbounded due) found
+    → Yields (TakesFirst shows) walked seen left → r ≡ Some next → TakesFirst shows left r rest
+    → (entries_on from due ≡ map shows seen ++ shows next ∷ rest)
+    × All (IsEntryInRange int_cmp (Included from) Unbounded due) (entries_on from due)
+comes_to shows start from due found walked left rest seen next r same walks is there yields some takes = (
+  seen_more shows (entries_on from due) walked left rest seen next r
+      (walks_all start from due found walked same walks is) yields some takes,
+  in_range start from due found same is there,
+)

@@ -5,7 +5,7 @@ use Rattle.std.proofs.lemmas.Slice.Eq.{bytes_eq-Decides}
 use Rattle.std.proofs.lemmas.List.Elements.{All-cons, All-nil}
 use Rattle.std.proofs.lemmas.List.Sorted.{length_permutation, All-permutation}
 use Rattle.sqlite_value.specs.declared.value.Value.{Value}
-use Rattle.sqlite_value.specs.declared.value.Value.TheVariants.{Null, Int, Real, Text, Blob}
+use Rattle.sqlite_value.specs.declared.value.Value.TheVariants.{Int, Blob}
 use Rattle.sqlite_value.specs.Order.{Row, column}
 use Rattle.sqlite_trees.specs.Tree.{Trees}
 use Rattle.std.specs.String.{string_bytes}
@@ -15,7 +15,7 @@ use Rattle.stored_tables.specs.MachineOf.{machine_of}
 use Rattle.ledger_sql.specs.Effects.{Picks}
 use Rattle.ledger_sql.specs.TableRows.{directory_rows, is_int, is_blob}
 use Rattle.stored_ledgers.specs.Directory.{with_number, with_name, first_digest, number_of, digest_in, tenants_in}
-use Rattle.stored_ledgers.specs.DirectoryLaws.{Among, found_row}
+use Rattle.stored_ledgers.specs.DirectoryLaws.{Among, found_row, same_among}
 
 -- of at most one row a query picks that one
 pub only_picked : (rows : List Row) (row : Row) → length rows ≤ 1 → Picks rows (Some row)
@@ -68,23 +68,13 @@ among_filter p (other ∷ rows) row (inr later) passes =
     elim (p other) as (λ b. Among row (cond b (other ∷ filter p rows) (filter p rows)))
     [ true ↦ inr tail | false ↦ tail ]
 
-pub only_one : (rows : List Row) (a b : Row) → length rows ≤ 1 → Among a rows → Among b rows → a ≡ b
-only_one [] a b few is_a is_b = absurd is_a
-only_one (row ∷ []) a b few (inl is_a) (inl is_b) = is_a ∙ sym is_b
-only_one (row ∷ []) a b few (inr is_a) is_b = absurd is_a
-only_one (row ∷ []) a b few is_a (inr is_b) = absurd is_b
-only_one (row ∷ other ∷ rows) a b few is_a is_b = absurd (omega arith)
-
 pub is_number : (value : Value) (number : ℤ) → value ≡ Int number → is_int number value ≡ true
 is_number value number is = ap (is_int number) is ∙ (Decides-int_eq number number).1 refl
 
 blob_is : (value : Value) (a b : List ℕ) → is_blob a value ≡ true → is_blob b value ≡ true → a ≡ b
 blob_is (Blob bytes) a b is_a is_b =
     sym ((bytes_eq-Decides bytes a).0 is_a) ∙ (bytes_eq-Decides bytes b).0 is_b
-blob_is Null a b is_a is_b = absurd (cc)
-blob_is (Int n) a b is_a is_b = absurd (cc)
-blob_is (Real x) a b is_a is_b = absurd (cc)
-blob_is (Text bytes) a b is_a is_b = absurd (cc)
+blob_is value a b is_a is_b = absurd (cc)
 
 -- no two digests have one number
 pub one_digest : (a b : List ℕ) (number : ℤ) (trees : Trees)
@@ -95,7 +85,7 @@ one_digest a b number trees few is_a is_b =
     let row_b = found_row b number trees is_b in
     let rows = directory_rows trees in
     let numbered : Row → Bool = λ row. is_int number (column row 0) in
-    let same : row_a.row ≡ row_b.row = only_one (filter numbered rows) _ _ few
+    let same : row_a.row ≡ row_b.row = same_among (filter numbered rows) _ _ few
     (among_filter numbered rows row_a.row row_a.among (is_number _ number row_a.has_number))
     (among_filter numbered rows row_b.row row_b.among (is_number _ number row_b.has_number)) in
     blob_is (column row_a.row 2) a b row_a.has_digest

@@ -38,7 +38,7 @@ module _ {O : Type 0} (sets sets' : DueSets) (number : ℤ) (set : DueSet)
   worked = subst (λ (db : Database). HasWorked gives number set db new.now output) same here.worked
 
   -- was done for the tenant's digest
-  pub work_timed : IsBatchTimed gives digest old.now new.now output past
+  work_timed : IsBatchTimed gives digest old.now new.now output past
   work_timed = record {
     batch = batch_done sets sets' number set found others gives digest old.now new.now serves output tenant worked;
     time = time_kept sets sets' number set found others gives digest old.now new.now serves output tenant worked
@@ -48,14 +48,17 @@ module _ {O : Type 0} (sets sets' : DueSets) (number : ℤ) (set : DueSet)
   }
 
   -- and the round goes on
-  pub work_goes_on : IsInRound sets' new
-  work_goes_on = record {
-    is_open = here.is_open;
-    mode = here.mode;
-    unmarked = here.unmarked;
-    serves = serves_after sets sets' number set found others gives digest old.now new.now serves output tenant
-        worked;
-  }
+  pub work_done : IsBatchTimed gives digest old.now new.now output past × IsInRound sets' new
+  work_done = (
+    work_timed,
+    record {
+      is_open = here.is_open;
+      mode = here.mode;
+      unmarked = here.unmarked;
+      serves = serves_after sets sets' number set found others gives digest old.now new.now serves output tenant
+          worked;
+    },
+  )
 
 -- what a round was told, with what it serves
 pub told_serving : {O R : Type 0} (answer : Answer O R) (does : O → Type 0) (refuses refused : R → Type 0)

@@ -4,7 +4,7 @@ use Rattle.std.specs.List.{AllByRecursion}
 use Rattle.std.proofs.lemmas.List.Elements.{All-cons, All-nil}
 use Rattle.std.proofs.lemmas.List.Sorted.{length_permutation, All-permutation}
 use Rattle.sqlite_value.specs.declared.value.Value.{Value}
-use Rattle.sqlite_value.specs.declared.value.Value.TheVariants.{Null, Int, Real, Text, Blob}
+use Rattle.sqlite_value.specs.declared.value.Value.TheVariants.{Int}
 use Rattle.sqlite_value.specs.Order.{Row, column}
 use Rattle.sqlite_trees.specs.Tree.{Trees}
 use Rattle.sqlite_trees.proofs.ListLemmas.{filter-map, map-map}
@@ -57,6 +57,19 @@ all_among P [] row all is = absurd is
 all_among P (other ∷ rows) row all (inl same) = subst P (sym same) all.0
 all_among P (other ∷ rows) row all (inr later) = all_among P rows row all.1 later
 
+-- of at most one row it is the only one
+pub only_among : (rows : List Row) (row : Row) → length rows ≤ 1 → Among row rows
+    → rows ≡ row ∷ []
+only_among [] row few is = absurd is
+only_among (other ∷ []) row few (inl same) = ap (λ r. r ∷ []) (sym same)
+only_among (other ∷ []) row few (inr later) = absurd later
+only_among (other ∷ another ∷ rows) row few is = absurd (omega arith)
+
+pub same_among : (rows : List Row) (a b : Row) → length rows ≤ 1 → Among a rows → Among b rows
+    → a ≡ b
+same_among rows a b few is_a is_b =
+    let same = sym (only_among rows a few is_a) ∙ only_among rows b few is_b in cc
+
 pub filter_head : (p : Row → Bool) (rows : List Row) (row : Row) (rest : List Row)
     → filter p rows ≡ row ∷ rest → Among row rows × (p row ≡ true)
 filter_head p [] row rest is = absurd (cc)
@@ -69,10 +82,7 @@ filter_head p (other ∷ rows) row rest is =
 
 number_is : (value : Value) (number : ℤ) → number_in value ≡ Some number → value ≡ Int number
 number_is (Int n) number is = cc
-number_is Null number is = absurd (cc)
-number_is (Real x) number is = absurd (cc)
-number_is (Text bytes) number is = absurd (cc)
-number_is (Blob bytes) number is = absurd (cc)
+number_is value number is = absurd (cc)
 
 -- the row of a tenant that is found by its digest
 pub record IsFoundByDigest (digest : List ℕ) (number : ℤ) (rows : List Row) : Type 0 where

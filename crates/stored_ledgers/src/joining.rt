@@ -3,11 +3,9 @@
 ghost use Rattle.std.specs.Prelude.{◌≡◌, ◌<◌, ◌≤◌, ℕ, pos, true, None, Some, Err, IfSome};
 ghost use Rattle.std.specs.Ordering.{int_eq};
 ghost use Rattle.records.specs.declared.unavailable.Unavailable.TheVariants.{Disk};
-ghost use Rattle.sqlite.specs.State.{Survives};
 ghost use Rattle.sqlite.specs.Held.{state};
 ghost use Rattle.ledger_sql.specs.Calls.{IfClean};
-ghost use Rattle.ledger_sql.specs.Frames.{Live};
-ghost use Rattle.stored_ledgers.specs.Calls.{Sees, ServesOn};
+ghost use Rattle.stored_ledgers.specs.Calls.{ChangesTenants, Sees};
 ghost use Rattle.stored_ledgers.specs.Directory.{IsLeastFree, IsLeastMissing, has_number};
 ghost use Rattle.stored_ledgers.specs.Joining.{HasJoined, Joined, IsJoined, joining_answer, AreTaken};
 ghost use Rattle.stored_ledgers.specs.Ledger.{HoldsLedgers};
@@ -52,11 +50,10 @@ pub fn join<S: Alter>(
     digest: &[u8; 32],
 ) -> Result<Result<(), Taken>, Unavailable>
     requires { IsServing due.old (state S.Store conn.old) }
-    ensures told { Live (state S.Store conn.new) → HasJoined name.now digest.now
-        (state S.Store conn.old).now (state S.Store conn.new).now (joining_answer result) }
-    ensures serves { ServesOn Disk due.new (state S.Store conn.new) result }
-    ensures survives { Survives (state S.Store conn.old) (state S.Store conn.new)
-        (Joined name.now digest.now (state S.Store conn.old).now) }
+    ensures { ChangesTenants Disk
+        (λ old new. HasJoined name.now digest.now old new (joining_answer result))
+        (Joined name.now digest.now) due.new (state S.Store conn.old) (state S.Store conn.new)
+        result }
 {
     let joining = Joining {
         alloc,
@@ -119,10 +116,11 @@ fn what_is_taken<S: Alter>(
     if find_tenant_by_name(conn, name.as_str())?.is_some() {
         return Ok(Some(Taken::Name));
     }
-    if find_tenant(conn, digest)?.is_some() {
-        return Ok(Some(Taken::Digest));
-    }
-    Ok(None)
+    Ok(
+        find_tenant(conn, digest)?
+            .is_some()
+            .then_some(Taken::Digest),
+    )
 }
 
 /// The least number from 1 that no tenant has.

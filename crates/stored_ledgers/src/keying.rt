@@ -2,10 +2,8 @@
 
 ghost use Rattle.std.specs.Prelude.{◌≡◌, Err};
 ghost use Rattle.records.specs.declared.unavailable.Unavailable.TheVariants.{Disk};
-ghost use Rattle.sqlite.specs.State.{Survives};
 ghost use Rattle.sqlite.specs.Held.{state};
-ghost use Rattle.ledger_sql.specs.Frames.{Live};
-ghost use Rattle.stored_ledgers.specs.Calls.{ServesOn};
+ghost use Rattle.stored_ledgers.specs.Calls.{ChangesTenants};
 ghost use Rattle.stored_ledgers.specs.Keying.{HasKeyed, Keyed, IsKeyed, IsKeyRefused, keying_answer};
 ghost use Rattle.stored_ledgers.specs.Resting.{IsServing, CanServe};
 
@@ -44,11 +42,10 @@ pub fn change_key<S: Alter>(
     digest: &[u8; 32],
 ) -> Result<Result<(), KeyRefused>, Unavailable>
     requires { IsServing due.old (state S.Store conn.old) }
-    ensures told { Live (state S.Store conn.new) → HasKeyed name.now digest.now
-        (state S.Store conn.old).now (state S.Store conn.new).now (keying_answer result) }
-    ensures serves { ServesOn Disk due.new (state S.Store conn.new) result }
-    ensures survives { Survives (state S.Store conn.old) (state S.Store conn.new)
-        (Keyed name.now digest.now (state S.Store conn.old).now) }
+    ensures { ChangesTenants Disk
+        (λ old new. HasKeyed name.now digest.now old new (keying_answer result))
+        (Keyed name.now digest.now) due.new (state S.Store conn.old) (state S.Store conn.new)
+        result }
 {
     in_transaction(conn, due, Keying { name, digest })
 }

@@ -7,6 +7,7 @@ use Rattle.std.proofs.lemmas.Bool.{cases_Bool, both_ways, ltb-true, ltb-false}
 use Rattle.std.proofs.lemmas.Bool.Decides.{nat_tests}
 use Rattle.std.proofs.lemmas.List.{reverse-append, append-nil}
 use Rattle.std.proofs.lemmas.List.{map-append}
+use Rattle.std.proofs.lemmas.List.Elements.{filter-append, filter_passes, recursion_from_All}
 use Rattle.sqlite_value.specs.declared.value.Value.TheVariants.{Int}
 use Rattle.sqlite_trees.specs.Tree.{IsAscending}
 use Rattle.sqlite_trees.proofs.ListLemmas.{all_weaker}
@@ -14,15 +15,11 @@ use Rattle.ledger_sql.specs.TableRows.{is_from, is_until}
 
 -- ---- lists
 
-filter_append : {A : Type 0} (p : A → Bool) (xs ys : List A) → filter p (xs ++ ys) ≡ filter p xs ++ filter p ys
-filter_append p [] ys = refl
-filter_append p (x ∷ xs) ys = elim (p x) as (λ b. cond b (x ∷ filter p (xs ++ ys)) (filter p (xs ++ ys)) ≡ cond b (x ∷ filter p xs) (filter p xs) ++ filter p ys) [ true ↦ ap (λ rest. x ∷ rest) (filter_append p xs ys) | false ↦ filter_append p xs ys ]
-
 pub filter-reverse : {A : Type 0} (p : A → Bool) (xs : List A) → filter p (reverse xs) ≡ reverse (filter p xs)
 filter-reverse p [] = refl
 filter-reverse p (x ∷ xs) =
     ap (filter p) (reverse-append (x ∷ []) xs)
-    ∙ filter_append p (reverse xs) (x ∷ [])
+    ∙ filter-append p (reverse xs) (x ∷ [])
     ∙ ap (λ front. front ++ filter p (x ∷ [])) (filter-reverse p xs)
     ∙ last (p x)
   where
@@ -37,12 +34,7 @@ map-reverse f (x ∷ xs) =
     ∙ ap (λ front. front ++ f x ∷ []) (map-reverse f xs) ∙ sym (reverse-append (f x ∷ []) (map f xs))
 
 pub passing : {A : Type 0} (p : A → Bool) (xs : List A) → AllByRecursion (λ x. p x ≡ true) (filter p xs)
-passing p [] = tt
-passing p (x ∷ xs) = at (p x) refl (passing p xs)
-  where
-    at : (b : Bool) → p x ≡ b → AllByRecursion (λ x. p x ≡ true) (filter p xs) → AllByRecursion (λ x. p x ≡ true) (cond b (x ∷ filter p xs) (filter p xs))
-    at true is all = (is, all)
-    at false is all = all
+passing p xs = recursion_from_All (λ x. p x ≡ true) (filter p xs) (filter_passes p xs)
 
 pub bounded_left : {A : Type 0} (R : A → A → Type 0) (B : A → Type 0) (xs : List A) → IsAscending R xs → AllByRecursion B xs → IsAscending (λ a b. R a b × B a) xs
 bounded_left R B [] up all = tt

@@ -2,26 +2,22 @@
 use Rattle.std.proofs.Common.{◌≡◌, IfSome, ℕ, ◌<◌, ◌^◌, ℤ, Option, Some, None, Ok, Err, Result, OnOk, IfOk, IsSome, List, refl, sym, subst}
 use Rattle.std.proofs.lemmas.List.Elements.{recursion_from_All, All-from_recursion}
 use Rattle.std.proofs.lemmas.Result.{on_ok_weaker}
-use Rattle.amount.specs.Column.{column_of, IsOneToOne}
 use Rattle.sqlite.specs.Effect.{Database}
 use Rattle.sqlite.specs.State.{State, IsUnchanged}
+use Rattle.records.specs.declared.accepted.Ending.{Ending}
 use Rattle.records.specs.declared.balances.Balances.{Balances}
 use Rattle.records.specs.declared.transfer.Transfer.{Transfer}
 use Rattle.records.specs.declared.facts.PendingState.{PendingState}
 use Rattle.records.specs.declared.unavailable.Unavailable.{Unavailable}
+use Rattle.engine.specs.EndingLaw.{ended_id}
 use Rattle.rows.specs.declared.balance_row.BalanceRow.{BalanceRow}
 use Rattle.rows.specs.declared.status_row.StatusRow.{StatusRow}
-use Rattle.rows.specs.Cells.{status_cells}
 use Rattle.rows.specs.StatusNumbers.{IsStorableDue}
 use Rattle.rows.specs.Widths.{IsStorableStatus}
-use Rattle.ledger_sql.specs.Effects.{IsLedger, IsInside, SetsOne}
-use Rattle.ledger_sql.specs.TableRows.{status_rows, has_id}
-use Rattle.ledger_sql.specs.Values.{status_values}
-use Rattle.rows.specs.Changes.{set_balances, set_both, set_state}
+use Rattle.rows.specs.Changes.{set_balances, set_both, set_state, ended}
 use Rattle.rows.specs.Keyed.{row_with, changed}
-use Rattle.stored_tables.specs.Moves.{ChangesRows, IsThere, HasBoth, HasStatus, IsStatusOf}
-use Rattle.stored_tables.proofs.RowMoves.{distinct_kept, all_kept, found_kept, some_of}
-use Rattle.stored_tables.proofs.Statements.{Alone, Replaced, state_set}
+use Rattle.stored_tables.specs.Moves.{MovesRows, ChangesRows, IsThere, HasBoth, HasStatus, CanEnd, IsStatusOf}
+use Rattle.stored_tables.proofs.RowMoves.{distinct_kept, all_kept, found_key, found_kept, some_of}
 use Rattle.stored_tables.proofs.Writing.{writes_then, writes_after_same}
 
 -- two facts of a value give a third
@@ -67,17 +63,33 @@ due_fits (Some due) fits time is = let same : due ≡ time = cc in subst (λ n. 
 pub row_due_fits : (o : Option StatusRow) (row : StatusRow) → o ≡ Some row → IfSome o IsStorableStatus → (time : ℕ) → row.due ≡ Some time → time < 2 ^ 63
 row_due_fits o row is fits = due_fits row.due (some_fits IsStorableStatus o row is fits).due
 
--- a status row that was found is set
+-- a status row that was found under an id is set
 module _ (tenant : ℤ) (id : ℕ) (to : PendingState) (s0 s1 s2 : State) where
-  abbrev SetsState : State → Type 0
-  SetsState s = ChangesRows tenant (λ rows. HasStatus id rows.statuses) (λ rows. record rows { statuses = set_state id to rows.statuses }) s s2
+  abbrev SetsState : ℕ → State → Type 0
+  SetsState k s = ChangesRows tenant (λ rows. HasStatus k rows.statuses) (λ rows. record rows { statuses = set_state k to rows.statuses }) s s2
 
-  pub state_written : IsInside s0 → IsOneToOne → Alone StatusRow → Replaced StatusRow → (row : StatusRow) (found : Option StatusRow) → found ≡ Some row → IsStatusOf tenant id s0.now.trees found → IsUnchanged s0 s1 → (r : Result (Unit {0}) Unavailable)
-      → OnOk r (SetsOne status_rows 13 tenant (has_id (column_of row.transfer)) (status_values (status_cells (record row { state = to }))) s1 s2) → OnOk r (SetsState s0)
-  state_written inside columns alone replaced row found is told same r sets =
-      on_ok_weaker r
-      (λ (one : SetsOne status_rows 13 tenant (has_id (column_of row.transfer)) (status_values (status_cells (record row { state = to }))) s1 s2).
+  state_written : (row : StatusRow) → IsStatusOf tenant id s0.now.trees (Some row) → IsUnchanged s0 s1 → SetsState row.transfer s1 → SetsState id s0
+  state_written row told same sets =
       writes_after_same tenant (λ rows. HasStatus id rows.statuses) (λ rows. record rows { statuses = set_state id to rows.statuses }) s0 s1 s2 same
-      (state_set tenant s1 s2 (subst (λ (db : Database). IsLedger db.schema) (sym same.0.now_is) inside.schema) columns alone replaced id to row
-      (subst (λ (db : Database). IsStatusOf tenant id db.trees (Some row)) (sym same.0.now_is) (subst (IsStatusOf tenant id s0.now.trees) is told)) one))
+      (record {
+        inside = sets.inside;
+        moves = λ rows can num held.
+            let there = subst (λ (db : Database). IsStatusOf tenant id db.trees (Some row)) (sym same.0.now_is) told rows held can.storable can.there.distinct in
+            let own = found_key (λ (r : StatusRow). r.transfer) id rows.statuses row (sym there) in
+            (subst (λ k. SetsState k s1) own sets).moves rows can num held;
+      })
+
+  -- so is that of the transfer that is ended
+  pub end_written : (ending : Ending) → id ≡ ended_id ending → ((rows : List StatusRow) → ended (Some ending) rows ≡ set_state id to rows) → (row : StatusRow) → IsStatusOf tenant id s0.now.trees (Some row) → IsUnchanged s0 s1 → (r : Result (Unit {0}) Unavailable)
+      → OnOk r (SetsState row.transfer s1) → OnOk r (ChangesRows tenant (λ rows. CanEnd (Some ending) rows.statuses) (λ rows. record rows { statuses = ended (Some ending) rows.statuses }) s0 s2)
+  end_written ending own is row told same r sets =
+      on_ok_weaker r
+      (λ (set : SetsState row.transfer s1).
+      let w = state_written row told same set in
+      record {
+        inside = w.inside;
+        moves = λ rows can num held.
+            subst (λ (statuses : List StatusRow). MovesRows tenant (record rows { statuses = statuses }) s0.now s2.now) (sym (is rows.statuses))
+            (w.moves rows (subst (λ k. HasStatus k rows.statuses) (sym own) can) num held);
+      })
       sets

@@ -1,12 +1,10 @@
 -- The rows of a transfer, as they are written one after the other.
-use Rattle.std.proofs.Common.{◌≡◌, ℕ, ℤ, true, cond, Option, List, [], ◌∷◌, ◌++◌, Result, OnOk, sym, ap, subst, ◌∙◌}
+use Rattle.std.proofs.Common.{◌≡◌, ℤ, List, [], ◌∷◌, ◌++◌, Result, OnOk, refl, sym, subst}
+use Rattle.std.proofs.lemmas.List.{append-nil}
 use Rattle.std.proofs.lemmas.Result.{on_ok_weaker}
 use Rattle.records.specs.declared.accepted.Accepted.{Accepted}
-use Rattle.records.specs.declared.facts.PendingState.TheVariants as state
 use Rattle.records.specs.declared.transfer.Transfer.{Transfer}
 use Rattle.records.specs.declared.unavailable.Unavailable.{Unavailable}
-use Rattle.records.specs.Due.{due_of}
-use Rattle.records.specs.Flags.{is_pending}
 use Rattle.sqlite.specs.State.{State}
 use Rattle.rows.specs.declared.history_row.HistoryRow.{HistoryRow}
 use Rattle.rows.specs.declared.status_row.StatusRow.{StatusRow}
@@ -15,24 +13,33 @@ use Rattle.rows.specs.Changes.{with_accepted, set_both, ended, new_statuses, new
 use Rattle.ledger_sql.specs.Effects.{IsInside, AddsRows}
 use Rattle.ledger_sql.specs.TableRows.{transfer_rows, status_rows, history_rows}
 use Rattle.ledger_sql.specs.Values.{transfer_values, status_values, history_values}
-use Rattle.stored_tables.specs.Moves.{ChangesRows, Any, HasBoth, CanEnd, CanAccept}
+use Rattle.stored_tables.specs.BatchLaws.{others_itself}
+use Rattle.stored_tables.specs.Holds.{HoldsRows}
+use Rattle.stored_tables.specs.Moves.{CanWrite, ChangesRows, Any, HasBoth, CanEnd, CanAccept}
 use Rattle.stored_tables.proofs.Statements.{transfer_added, status_added, history_added}
-use Rattle.stored_tables.proofs.Writing.{writes_then}
+use Rattle.stored_tables.proofs.Writing.{inside_itself, writes_then}
 
 module _ (tenant : ℤ) where
-  abbrev Status : List StatusRow → State → State → Type 0
+  abbrev pub Status : List StatusRow → State → State → Type 0
   Status more s0 s1 = ChangesRows tenant Any (λ rows. record rows { statuses = rows.statuses ++ more }) s0 s1
 
-  -- the status of a pending transfer
-  pub status_written : (t : Transfer) (due : Option ℕ) (s0 s1 : State) (r : Result (Unit {0}) Unavailable) → IsInside s0 → is_pending t.flags ≡ true → due ≡ due_of t
-      → OnOk r (AddsRows status_rows 13 tenant (status_values (status_cells (record { transfer = t.id; state = state.Open; due = due })) ∷ []) s0 s1) → OnOk r (Status (new_statuses t) s0 s1)
-  status_written t due s0 s1 r inside pends is adds =
-      let row : StatusRow = record { transfer = t.id; state = state.Open; due = due } in
-      let only : StatusRow = record { transfer = t.id; state = state.Open; due = due_of t } in
-      let new : row ∷ [] ≡ new_statuses t = (λ i. record { transfer = t.id; state = state.Open; due = is i } ∷ []) ∙ ap (λ b. cond b (only ∷ []) []) (sym pends) in
-      on_ok_weaker r
-      (λ (a : AddsRows status_rows 13 tenant (status_values (status_cells row) ∷ []) s0 s1). subst (λ more. Status more s0 s1) new (status_added tenant s0 s1 inside.schema row a))
-      adds
+  -- the status of a new transfer
+  pub status_written : (t : Transfer) (row : StatusRow) (s0 s1 : State) → IsInside s0 → row ∷ [] ≡ new_statuses t → AddsRows status_rows 13 tenant (status_values (status_cells row) ∷ []) s0 s1 → Status (new_statuses t) s0 s1
+  status_written t row s0 s1 inside is adds = subst (λ more. Status more s0 s1) is (status_added tenant s0 s1 inside.schema row adds)
+
+  -- one that has none
+  pub none_written : (t : Transfer) (s : State) → CanWrite s → [] ≡ new_statuses t → Status (new_statuses t) s s
+  none_written t s can is =
+      subst (λ more. Status more s s) is
+      (record {
+        inside = inside_itself s can;
+        moves = λ rows any num held. record {
+          numbered = num;
+          others = others_itself tenant s.now.trees;
+          strangers = refl;
+          rows = subst (λ (statuses : List StatusRow). HoldsRows tenant (record rows { statuses = statuses }) s.now.trees) (sym (append-nil rows.statuses)) held;
+        };
+      })
 
   -- the history of a transfer
   pub history_written : (a : Accepted) (d c : HistoryRow) (s0 s1 : State) (r : Result (Unit {0}) Unavailable) → IsInside s0 → d ∷ c ∷ [] ≡ new_history a

@@ -1,7 +1,7 @@
 -- What is read before a transfer expires.
 use Rattle.std.proofs.Common.{◌≡◌, ℕ, ◌<◌, ◌^◌, ℤ, eqb, List, Option, Some, None, option_map, Result, Ok, Err, IfOk, IfSome, IsTrue, inl, refl, sym, ap, subst, ◌∙◌}
 use Rattle.std.specs.Option.{ok_or, unwrap_or}
-use Rattle.std.proofs.lemmas.List.Elements.{recursion_from_All}
+use Rattle.std.proofs.lemmas.List.Elements.{All-weaker, recursion_from_All}
 use Rattle.std.proofs.lemmas.Option.{same_Some}
 use Rattle.amount.specs.Column.{column_of, IsOneToOne}
 use Rattle.sqlite_value.specs.Order.{Row}
@@ -12,21 +12,25 @@ use Rattle.sqlite.specs.State.{State, HasCleanDisk, IsUnchanged}
 use Rattle.records.specs.declared.balances.Balances.{Balances}
 use Rattle.records.specs.declared.side.Side.TheVariants.{Debit, Credit}
 use Rattle.records.specs.declared.transfer.Transfer.{Transfer}
-use Rattle.records.specs.Machine.{transfer_with}
+use Rattle.records.specs.Balances.{balances_in}
+use Rattle.records.specs.Machine.{Machine, transfer_with}
 use Rattle.engine.specs.After.{balances_released}
 use Rattle.rows.specs.declared.balance_row.BalanceRow.{BalanceRow}
 use Rattle.rows.specs.Cells.{balance_cells}
 use Rattle.rows.specs.Keyed.{row_with}
+use Rattle.rows.specs.Prescribed.{rows_for}
 use Rattle.rows.specs.Widths.{IsStorableBalance}
 use Rattle.ledger_sql.specs.Calls.{LeavesRead}
-use Rattle.ledger_sql.specs.Effects.{IsLedger, Picks}
+use Rattle.ledger_sql.specs.Effects.{IsLedger, IsInside, Picks}
 use Rattle.ledger_sql.specs.TableRows.{balance_rows, has_id, with_id}
 use Rattle.ledger_sql.specs.Values.{balance_values}
 use Rattle.stored_tables.specs.BatchLaws.{follows_itself}
+use Rattle.stored_tables.specs.Holds.{HoldsMachine}
 use Rattle.stored_tables.specs.Kept.{Kept}
-use Rattle.stored_tables.specs.Releasing.{HasAccounts, AreBalancesOf, AreKeptBalancesOf, IsTransferOf, IsExpiry}
+use Rattle.stored_tables.specs.Releasing.{AreApart, HasAccounts, AreBalancesOf, AreKeptBalancesOf, IsTransferOf, IsExpiry}
 use Rattle.stored_tables.proofs.KeptRows.{look_under}
-use Rattle.stored_tables.proofs.RowMoves.{found_key, found_all, found_row, tells_id}
+use Rattle.stored_tables.proofs.RowMoves.{found_key, found_all, found_row, if_found, tells_id}
+use Rattle.stored_tables.proofs.RowsTell.{balances_told as balances_told_by}
 use Rattle.stored_tables.proofs.SameValues.{CellsTellRows, same_balance}
 use Rattle.stored_tables.proofs.Statements.{Alone}
 
@@ -59,6 +63,18 @@ balances_told tenant account trees cells one alone narrow found row is fits pick
     found_row values account_of account (has_id (column_of account)) rows.balances tells (balance_rows tenant trees) held.balances (alone account_of account rows.balances has.distinct) IsStorableBalance (same_balance cells) found
     has.fits fits picks in
     with_account_id account rows.balances row (sym same ∙ is)
+
+-- they are those that the tenant's machine has
+pub balances_held : (tenant : ℤ) (account : ℕ) (m : Machine) (trees : Trees) (found : Balances) → HoldsMachine tenant m trees → AreApart (rows_for 3 m) → AreBalancesOf tenant account trees found → found ≡ balances_in m account
+balances_held tenant account m trees found held apart told =
+    let stored = (rows_for 3 m).balances in
+    let each = recursion_from_All IsStorableBalance stored apart.balances_fit in
+    let has : HasAccounts account stored = record {
+      ids = All-weaker IsStorableBalance (λ row. row.account < 2 ^ 128) (λ row fit. fit.account) stored apart.balances_fit;
+      distinct = apart.balances;
+      fits = if_found IsStorableBalance account_of account stored each;
+    } in
+    balances_told_by m account (record { account = account; balances = found }) (told (rows_for 3 m) held.rows has)
 
 module _ (tenant : ℤ) (kept : Kept) (account : ℕ) (trees : Trees) where
   -- what is kept of an account are its balances
@@ -103,6 +119,10 @@ nothing_read x s opened =
 -- where a ledger was read there is one
 pub still_ledger : (s0 s1 : State) → IsUnchanged s0 s1 → IsLedger s0.now.schema → IsLedger s1.now.schema
 still_ledger s0 s1 same = subst (λ (db : Database). IsLedger db.schema) (sym same.0.now_is)
+
+-- and a transaction over one
+pub inside_still : (s0 s1 : State) → IsUnchanged s0 s1 → IsInside s0 → IsInside s1
+inside_still s0 s1 same inside = record { schema = still_ledger s0 s1 same inside.schema; mode = same.0.mode ∙ inside.mode }
 
 -- so is what was found of an account of which nothing is kept
 pub told_stored : {E : Type 0} (tenant : ℤ) (kept : Kept) (account : ℕ) (trees : Trees) → kept account ≡ None → (r : Result Balances E) → IfOk r (AreBalancesOf tenant account trees) → IfOk r (AreKeptBalancesOf tenant kept account trees)

@@ -11,15 +11,14 @@ use Rattle.rows.specs.Changes.{set_balances}
 use Rattle.rows.specs.TypedRows.{TypedRows}
 use Rattle.rows.specs.Widths.{IsStorableBalance}
 use Rattle.stored_tables.specs.declared.kept.KeptRow.{KeptRow}
-use Rattle.stored_tables.specs.BatchLaws.{others_then}
+use Rattle.stored_tables.specs.BatchLaws.{others_itself, others_then}
 use Rattle.stored_tables.specs.Holds.{HoldsRows}
 use Rattle.stored_tables.specs.Kept.{Kept, kept_in, HoldsKept, Flushes}
 use Rattle.stored_tables.specs.Moves.{CanWrite, ChangesRows, IsThere}
 use Rattle.stored_tables.specs.Releasing.{AreApart}
 use Rattle.stored_tables.proofs.ChangedRows.{there_kept}
 use Rattle.stored_tables.proofs.KeptRows.{kept_push, flush_over, with_none}
-use Rattle.stored_tables.proofs.Released.{keeps_itself}
-use Rattle.stored_tables.proofs.Writing.{inside_then}
+use Rattle.stored_tables.proofs.Writing.{inside_itself, inside_then}
 
 -- a database has the rows where nothing is kept, and no other ones
 pub none_kept : (tenant : ℤ) (rows : TypedRows) (trees : Trees) → AreApart rows → HoldsRows tenant rows trees → HoldsKept tenant (kept_in []) rows trees
@@ -39,12 +38,8 @@ as_stored tenant rows trees held =
 -- no call at all
 pub same_kept : (tenant : ℤ) (kept : Kept) (s : State) → CanWrite s → Flushes tenant kept kept s s
 same_kept tenant kept s can = record {
-  inside = record {
-    schema = refl;
-    shown = record { was_open = can.is_open; is_open = can.is_open; now_is = refl; committed_is = refl; mode = can.inside.mode };
-    marks = refl;
-  };
-  moves = λ rows any num held. record { numbered = num; others = keeps_itself tenant s.now.trees; strangers = refl; rows = held };
+  inside = inside_itself s can;
+  moves = λ rows any num held. record { numbered = num; others = others_itself tenant s.now.trees; strangers = refl; rows = held };
 }
 
 -- what is kept stays in the rows over two calls in turn

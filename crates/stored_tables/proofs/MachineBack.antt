@@ -27,11 +27,7 @@ use Rattle.stored_tables.proofs.WideBytes.{from_be_bytes-to_be_bytes_16}
 
 pub account_back : (a : Account) → IsStorableAccount a → account_of (account_values (account_cells a)) ≡ a
 unfolding column_of short_column_of
-account_back a p = λ i. record a {
-  id = from_be_bytes-to_be_bytes_16 a.id p.widths.id i;
-  user_data_128 = from_be_bytes-to_be_bytes_16 a.user_data_128 p.widths.user_data_128 i;
-  user_data_64 = from_be_bytes-to_be_bytes_8 a.user_data_64 p.widths.user_data_64 i;
-}
+account_back a p = rw (from_be_bytes-to_be_bytes_16 a.id p.widths.id, from_be_bytes-to_be_bytes_16 a.user_data_128 p.widths.user_data_128, from_be_bytes-to_be_bytes_8 a.user_data_64 p.widths.user_data_64) refl
 
 pub transfer_back : (t : Transfer) → IsStorableTransfer t → transfer_of (transfer_values (transfer_cells t)) ≡ t
 unfolding column_of short_column_of

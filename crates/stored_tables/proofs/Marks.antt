@@ -1,6 +1,7 @@
 -- What the mark of a batch does to it.
-use Rattle.std.proofs.Common.{◌≡◌, ℤ, inl, inr, List, [], ◌∷◌, ◌++◌, None, Ok, IsSome, IsTrue, true, false, refl, sym, ap, subst, subst₂, ◌∙◌}
-use Rattle.chain.specs.Tables.{Leaves, marking, marked_or, unmarked}
+use Rattle.std.proofs.Common.{◌≡◌, ℤ, inl, inr, List, [], ◌∷◌, ◌++◌, None, Result, Ok, Err, OnOk, OnErr, IsSome, IsTrue, true, false, refl, sym, ap, subst, subst₂, ◌∙◌}
+use Rattle.records.specs.declared.unavailable.Unavailable.{Unavailable}
+use Rattle.chain.specs.Tables.{State as Meant, Leaves, marking, marked_or, at_mark, unmarked}
 use Rattle.sqlite_trees.specs.declared.store.Store.{Ghosts}
 use Rattle.sqlite.specs.Effect.{Database}
 use Rattle.sqlite.specs.State.{State, Savepoint, HasCleanDisk}
@@ -8,7 +9,7 @@ use Rattle.sqlite.specs.Held.{Held, state}
 use Rattle.ledger_sql.specs.Frames.{Live, Follows}
 use Rattle.ledger_sql.specs.Stages.{the_mark, IsMarked, HasMarked, HasGoneBack, HasReleased}
 use Rattle.stored_tables.specs.InBatch.{HoldsOwn, KeepsRest, IsInBatchOf, AreMarks, IsInOwnBatch, shown, marked_in}
-use Rattle.stored_tables.specs.BatchLaws.{clean_before, rest_itself}
+use Rattle.stored_tables.specs.BatchLaws.{clean_before, live_before, rest_itself, calls_then}
 use Rattle.stored_tables.specs.MachineOf.{machine_of}
 use Rattle.stored_tables.specs.Meaning.{batch_meaning}
 use Rattle.stored_tables.proofs.Keeping.{shown_is}
@@ -125,3 +126,44 @@ module _ {S : Type 0} (store : Ghosts S) (tenant : ℤ) (old : Held S) (usable :
         undone = λ live. tt;
         follows = record { calls = follows; inside = λ live mode. (inside (was_clean live.0), stays (has live.0).now) };
       }
+
+-- a call that has gone back to the mark, which stays
+abbrev pub GoesBack : {S X : Type 0} → Ghosts S → ℤ → Held S → Held S → Result X Unavailable → Type 0
+GoesBack store tenant old new result = Leaves (batch_meaning store tenant) old new result (λ s. record s { now = marked_or s.now s.marked })
+
+module _ {S X : Type 0} (store : Ghosts S) (tenant : ℤ) (a b : Held S) (given : Result X Unavailable) (back : GoesBack store tenant a b given) where
+  -- where it failed, so has the whole
+  pub back_failed : {Y : Type 0} (why : Unavailable) (result : Result Y Unavailable) → given ≡ Err why → result ≡ Err why → Leaves (batch_meaning store tenant) a b result at_mark
+  back_failed why (Ok y) fails failed = absurd (cc)
+  back_failed why (Err e) fails failed = record {
+    state = λ live. tt;
+    usable = tt;
+    undone = λ live. subst (λ (r : Result X Unavailable). OnErr r ((shown tenant (state store b)).now ≡ (shown tenant (state store a)).begun)) fails (back.undone live);
+    follows = back.follows;
+  }
+
+  module _ (x : X) (is : given ≡ Ok x) where
+    -- where it did not, calls are allowed, and the mark is there
+    pub back_usable : IsInOwnBatch tenant (state store b)
+    back_usable = subst (λ (r : Result X Unavailable). OnOk r (IsInOwnBatch tenant (state store b))) is back.usable
+
+    back_shown : Live (state store b) → shown tenant (state store b) ≡ record (shown tenant (state store a)) { now = marked_or (shown tenant (state store a)).now (shown tenant (state store a)).marked }
+    back_shown live = subst (λ (r : Result X Unavailable). OnOk r (shown tenant (state store b) ≡ record (shown tenant (state store a)) { now = marked_or (shown tenant (state store a)).now (shown tenant (state store a)).marked })) is (back.state live)
+
+    pub back_marked : (Live (state store a) → IsSome (shown tenant (state store a)).marked) → Live (state store b) → IsSome (shown tenant (state store b)).marked
+    back_marked some live = subst IsSome (sym (ap (λ (s : Meant). s.marked) (back_shown live))) (some (live_before _ _ back.follows.calls live))
+
+    -- and the mark is closed behind it
+    pub back_closed : {Y : Type 0} (c : Held S) (result : Result Y Unavailable) → Leaves (batch_meaning store tenant) b c result unmarked → Leaves (batch_meaning store tenant) a c result at_mark
+    back_closed c (Ok y) closed = record {
+      state = λ live. closed.state live ∙ ap unmarked (back_shown (live_before _ _ closed.follows.calls live));
+      usable = closed.usable;
+      undone = λ live. tt;
+      follows = calls_then tenant _ _ _ back.follows closed.follows;
+    }
+    back_closed c (Err e) closed = record {
+      state = λ live. tt;
+      usable = tt;
+      undone = λ live. closed.undone live ∙ ap (λ (s : Meant). s.begun) (back_shown (live_before _ _ closed.follows.calls live));
+      follows = calls_then tenant _ _ _ back.follows closed.follows;
+    }

@@ -3,9 +3,10 @@ use Rattle.std.proofs.Common.{◌≡◌, ℕ, ℤ, true, false, List, [], ◌∷
 use Rattle.std.specs.List.Sorted.{IsPermutation}
 use Rattle.std.proofs.lemmas.List.Sorted.{IsPermutation-trans, IsPermutation-append_right}
 use Rattle.std.proofs.lemmas.Result.{on_ok_weaker}
-use Rattle.sqlite_trees.specs.Tree.{Trees}
+use Rattle.sqlite_trees.specs.declared.store.Store.{Ghosts}
 use Rattle.sqlite.specs.Effect.{Database}
-use Rattle.sqlite.specs.State.{State, IsUnchanged}
+use Rattle.sqlite.specs.State.{State, HasCleanDisk, IsUnchanged}
+use Rattle.sqlite.specs.Held.{Held, state}
 use Rattle.records.specs.declared.balances.Balances.{Balances}
 use Rattle.records.specs.declared.transfer.Transfer.{Transfer}
 use Rattle.records.specs.declared.unavailable.Unavailable.{Unavailable}
@@ -18,9 +19,11 @@ use Rattle.rows.specs.Keyed.{row_with}
 use Rattle.rows.specs.Prescribed.{rows_for}
 use Rattle.rows.specs.TypedRows.{TypedRows}
 use Rattle.rows.specs.Settling.{rows_when, rows_released, due_ids, is_due_row, IsNextRelease}
+use Rattle.ledger_sql.specs.Calls.{Changes}
 use Rattle.ledger_sql.specs.Effects.{IsInside}
-use Rattle.stored_tables.specs.BatchLaws.{others_then}
-use Rattle.stored_tables.specs.Frames.{KeepsOtherTenants, AreNumbered}
+use Rattle.ledger_sql.specs.Frames.{Follows}
+use Rattle.stored_tables.specs.BatchLaws.{clean_before, follows_then, others_itself, others_then}
+use Rattle.stored_tables.specs.Frames.{AreNumbered}
 use Rattle.stored_tables.specs.Kept.{Kept, HoldsKept, MovesKept, ChangesKept, Flushes}
 use Rattle.stored_tables.specs.Moves.{IsStatusOf}
 use Rattle.stored_tables.specs.Releasing.{AreApart, CanExpire, Expires, AreReleased, IsLess, ReleasesOne}
@@ -92,13 +95,6 @@ module _ (next : NextReleases) (clock id : ℕ) (m : Machine) (done : List ℕ) 
       fewer = λ other lacks. ap (has_id other) left ∙ not_in_fewer other id (due_ids clock rows) rest fewer lacks;
     }
 
-pub keeps_itself : (tenant : ℤ) (trees : Trees) → KeepsOtherTenants tenant trees trees
-keeps_itself tenant trees = record {
-  version = refl;
-  directory = refl;
-  others = λ other away. record { clock = refl; accounts = refl; transfers = refl; balances = refl; statuses = refl; history = refl; failed = refl };
-}
-
 -- a change behind a call that changed nothing
 kept_after_same : (tenant : ℤ) (was is : Kept) (can : TypedRows → Type 0) (change : TypedRows → TypedRows) (a b c : State) → IsUnchanged a b → ChangesKept tenant was is can change b c → ChangesKept tenant was is can change a c
 kept_after_same tenant was is _ change a b c same w = record {
@@ -125,7 +121,7 @@ module _ (tenant : ℤ) (clock id : ℕ) (found : Option StatusRow) (s0 s1 : Sta
       done,
       was,
       record { gone = not_due clock id (rows_released m done).statuses (was.apart.statuses id) (λ row there. not row (status_of kept m done was held ∙ there)); fewer = λ other lacks. lacks },
-      subst (MovesKept tenant kept (rows_released m done) s0.now) (sym same.0.now_is) (record { numbered = num; others = keeps_itself tenant s0.now.trees; strangers = refl; rows = held }),
+      subst (MovesKept tenant kept (rows_released m done) s0.now) (sym same.0.now_is) (record { numbered = num; others = others_itself tenant s0.now.trees; strangers = refl; rows = held }),
     );
   }
 
@@ -167,3 +163,16 @@ roomed tenant clock id was mid is s0 s1 s2 r room step =
           );
     })
     step
+
+-- what was kept is written, if need be, and the transaction goes on
+pub record MakesRoom (tenant : ℤ) (was is : Kept) (s0 s1 : State) : Type 0 where
+  pub flushes : HasCleanDisk s1 → Flushes tenant was is s0 s1
+  pub follows : Follows s0 s1
+
+-- the next one is released behind it
+pub room_then : {S : Type 0} (store : Ghosts S) (tenant : ℤ) (clock id : ℕ) (was mid is : Kept) (a b c : Held S) (r : Result (Unit {0}) Unavailable) → MakesRoom tenant was mid (state store a) (state store b) → Changes (ReleasesOne tenant clock id mid is) store b c r
+    → Changes (ReleasesOne tenant clock id was is) store a c r
+room_then store tenant clock id was mid is a b c r room step = record {
+  ok = λ clean. roomed tenant clock id was mid is _ _ _ r (room.flushes (clean_before _ _ step.follows clean)) (step.ok clean);
+  follows = follows_then _ _ _ room.follows step.follows;
+}

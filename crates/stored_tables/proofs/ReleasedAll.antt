@@ -1,5 +1,5 @@
 -- All that is due is released.
-use Rattle.std.proofs.Common.{◌≡◌, ℕ, ◌<◌, ◌≤◌, ◌^◌, ℤ, Bool, true, false, eqb, ◌&&◌, ◌||◌, List, [], ◌∷◌, ◌++◌, append-nil, Option, Some, None, Ok, Err, Result, OnOk, IsTrue, refl, sym, ap, subst, ◌∙◌, arith}
+use Rattle.std.proofs.Common.{◌≡◌, ℕ, ◌<◌, ◌≤◌, ◌^◌, ℤ, Bool, true, false, eqb, ◌&&◌, ◌||◌, List, [], ◌∷◌, ◌++◌, append-nil, Option, Some, None, refl, sym, ap, subst, ◌∙◌, arith}
 use Rattle.std.specs.List.{AllByRecursion, list_any, filter}
 use Rattle.std.specs.List.Sorted.{IsPermutation}
 use Rattle.std.specs.Prelude.{All}
@@ -8,7 +8,6 @@ use Rattle.std.proofs.lemmas.List.Elements.{recursion_from_All}
 use Rattle.std.proofs.lemmas.List.Folds.{list_any-append}
 use Rattle.std.proofs.lemmas.List.Sorted.{IsPermutation-refl, list_any-IsPermutation}
 use Rattle.sqlite.specs.State.{State}
-use Rattle.records.specs.declared.unavailable.Unavailable.{Unavailable}
 use Rattle.records.specs.declared.facts.PendingState.{PendingState}
 use Rattle.records.specs.declared.facts.PendingState.TheVariants.{Open, Posted, Voided, Expired}
 use Rattle.records.specs.Due.{has_come}
@@ -22,7 +21,7 @@ use Rattle.rows.specs.TypedRows.{TypedRows}
 use Rattle.rows.specs.Widths.{AreStorable, IsStorableStatus}
 use Rattle.rows.specs.Tables.{AreKeyed}
 use Rattle.rows.specs.SameRows.{AreSameRows}
-use Rattle.ledger_sql.specs.Effects.{IsInside, WritesInside}
+use Rattle.ledger_sql.specs.Effects.{WritesInside}
 use Rattle.stored_tables.specs.Covers.{IsCovered, Covers}
 use Rattle.stored_tables.specs.Frames.{AreNumbered}
 use Rattle.stored_tables.specs.Holds.{HoldsRows}
@@ -30,14 +29,13 @@ use Rattle.stored_tables.specs.declared.kept.KeptRow.{KeptRow}
 use Rattle.stored_tables.specs.Kept.{Kept, kept_in, HoldsKept, MovesKept, Flushes}
 use Rattle.stored_tables.specs.Moves.{CanWrite}
 use Rattle.stored_tables.specs.Releasing.{AreApart, AreReleased, IsLess, ReleasesOne, ReleasesDue}
-use Rattle.stored_tables.specs.BatchLaws.{others_then}
+use Rattle.stored_tables.specs.BatchLaws.{others_itself, others_then}
 use Rattle.stored_tables.proofs.DueKeys.{finds, is_within, holds_within}
 use Rattle.stored_tables.proofs.DueRows.{due_row}
 use Rattle.stored_tables.proofs.KeptMoves.{none_kept, as_stored}
 use Rattle.stored_tables.proofs.PastTimes.{IsLater, all_later}
-use Rattle.stored_tables.proofs.Released.{keeps_itself}
 use Rattle.stored_tables.proofs.RowsTell.{same_themselves}
-use Rattle.stored_tables.proofs.Writing.{inside_then, still_inside}
+use Rattle.stored_tables.proofs.Writing.{inside_itself, inside_then, still_inside}
 
 -- of these keys no transfer is left, once what is kept is put into the rows
 pub record ReleasesSeen (tenant : ℤ) (clock : ℕ) (kept : Kept) (seen : List (ℕ × ℕ)) (old new : State) : Type 0 where
@@ -58,7 +56,7 @@ abbrev pub KeysAreDistinct : Type 0
 KeysAreDistinct = (m : Machine) (rows : TypedRows) → IsValid m → AreSameRows (rows_for 3 m) rows → AreKeyed rows
 
 -- the rows of a machine are apart
-apart_for : RowsFit → KeysAreDistinct → (m : Machine) → IsValid m → AreApart (rows_for 3 m)
+pub apart_for : RowsFit → KeysAreDistinct → (m : Machine) → IsValid m → AreApart (rows_for 3 m)
 apart_for fit keyed m valid =
     let fits = fit 3 m valid in
     let keys = keyed m (rows_for 3 m) valid (same_themselves (rows_for 3 m)) in
@@ -73,9 +71,9 @@ apart_for fit keyed m valid =
 
 module _ (tenant : ℤ) (clock : ℕ) where
   -- at the beginning
-  pub seen_none : NoneReleased → RowsFit → KeysAreDistinct → (s : State) → IsInside s → IsTrue s.is_open → ReleasesSeen tenant clock (kept_in []) [] s s
-  seen_none first fit keyed s inside is_open = record {
-    inside = record { schema = refl; shown = record { was_open = is_open; is_open = is_open; now_is = refl; committed_is = refl; mode = inside.mode }; marks = refl };
+  pub seen_none : NoneReleased → RowsFit → KeysAreDistinct → (s : State) → CanWrite s → ReleasesSeen tenant clock (kept_in []) [] s s
+  seen_none first fit keyed s can = record {
+    inside = inside_itself s can;
     all = λ m valid num held.
         let apart : AreApart (rows_released m []) = subst AreApart (sym (first m)) (apart_for fit keyed m valid) in (
           [],
@@ -83,7 +81,7 @@ module _ (tenant : ℤ) (clock : ℕ) where
           tt,
           record {
             numbered = num;
-            others = keeps_itself tenant s.now.trees;
+            others = others_itself tenant s.now.trees;
             strangers = refl;
             rows = none_kept tenant (rows_released m []) s.now.trees apart (subst (λ (rows : TypedRows). HoldsRows tenant rows s.now.trees) (sym (first m)) held);
           },
@@ -189,11 +187,10 @@ seen_all fit tenant past from clock keys s0 s1 le seen = record {
 }
 
 -- so it is once all that was kept is written
-pub due_flushed : RowsFit → (tenant : ℤ) (past from clock : ℕ) (keys : List (ℕ × ℕ)) (kept : Kept) (rest : List KeptRow) (s0 s1 s2 : State) (r : Result (Unit {0}) Unavailable) → from ≤ past
+pub due_flushed : RowsFit → (tenant : ℤ) (past from clock : ℕ) (keys : List (ℕ × ℕ)) (kept : Kept) (rest : List KeptRow) (s0 s1 s2 : State) → from ≤ past
     → ReleasesSeen tenant clock kept (filter (is_within (from, 340282366920938463463374607431768211455) (clock, 340282366920938463463374607431768211455)) keys) s0 s1
-    → OnOk r (Flushes tenant kept (kept_in rest) s1 s2) → OnOk r (rest ≡ []) → OnOk r (ReleasesDue tenant past clock (λ key. list_any (finds key) keys) s0 s2)
-due_flushed fit tenant past from clock keys kept rest s0 s1 s2 (Ok x) le seen flushed empty = seen_all fit tenant past from clock keys s0 s2 le (seen_flushed tenant clock kept rest _ s0 s1 s2 empty seen flushed)
-due_flushed fit tenant past from clock keys kept rest s0 s1 s2 (Err e) le seen flushed empty = tt
+    → Flushes tenant kept (kept_in rest) s1 s2 → rest ≡ [] → ReleasesDue tenant past clock (λ key. list_any (finds key) keys) s0 s2
+due_flushed fit tenant past from clock keys kept rest s0 s1 s2 le seen flushed empty = seen_all fit tenant past from clock keys s0 s2 le (seen_flushed tenant clock kept rest _ s0 s1 s2 empty seen flushed)
 
 -- the transaction is open still
 pub can_write_still : (s0 s1 : State) → CanWrite s0 → WritesInside s0 s1 → CanWrite s1

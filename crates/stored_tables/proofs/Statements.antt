@@ -1,5 +1,5 @@
 -- What each statement does to the rows of its tenant.
-use Rattle.std.proofs.Common.{◌≡◌, ℕ, ◌<◌, ◌^◌, ℤ, pos, Bool, true, not, eqb, List, [], ◌∷◌, ◌++◌, filter, Option, Some, option_map, IfSome, refl, sym, ap, subst, ◌∙◌}
+use Rattle.std.proofs.Common.{◌≡◌, ℕ, ◌<◌, ◌^◌, ℤ, pos, Bool, true, not, eqb, List, [], ◌∷◌, ◌++◌, filter, map, Option, Some, option_map, IfSome, refl, sym, ap, subst, ◌∙◌}
 use Rattle.std.specs.List.{AllByRecursion}
 use Rattle.std.specs.List.Sorted.{IsPermutation}
 use Rattle.std.specs.Option.{option_to_list}
@@ -29,7 +29,7 @@ use Rattle.ledger_sql.specs.TableRows.{clock_rows, account_rows, transfer_rows, 
 use Rattle.ledger_sql.specs.Values.{clock_values, account_values, transfer_values, balance_values, status_values, history_values, id_values}
 use Rattle.rows.specs.TypedRows.{TypedRows}
 use Rattle.stored_tables.specs.Frames.{AreNumbered}
-use Rattle.stored_tables.specs.Holds.{HoldsRows}
+use Rattle.stored_tables.specs.Holds.{HasRows, HoldsRows}
 use Rattle.stored_tables.specs.Moves.{ChangesRows, MovesRows, Any, IsThere, HasStatus, IsStatusOf}
 use Rattle.stored_tables.proofs.RowMoves.{with_more, tells_id, one, found_row, with_changed, found_key, found_all, if_found, some_of}
 use Rattle.stored_tables.proofs.SameValues.{CellsTellRows, same_status}
@@ -53,42 +53,31 @@ module _ (tenant : ℤ) (old new : State) (ledger : IsLedger old.now.schema) whe
   added_aside rows tree added ours adds num = record { tables = adds.tables; others = adds.others; strangers = strangers_stay tree old new ours adds.inside.schema adds.tables; numbered = adds.numbered num }
 
   -- rows that are added to one table leave what they leave of it
-  rows_added : (table : ℤ → Trees → List Row) (tree : ℕ) (added : List Row) (change : TypedRows → TypedRows) → is_ours tree ≡ true → AddsRows table tree tenant added old new → (AreNumbered was → IsNumbered (was tree))
-      → ((rows : TypedRows) → AreNumbered was → HoldsRows tenant rows was → StaysAside table tree tenant old new → MovesRows tenant (change rows) old.now new.now) → ChangesRows tenant Any change old new
-  rows_added table tree added change ours adds numbered moves = record {
+  rows_added : {R : Type 0} (values : R → Row) (table : ℤ → Trees → List Row) (tree : ℕ) (of : TypedRows → List R) (more : List R) (change : TypedRows → TypedRows) → is_ours tree ≡ true → AddsRows table tree tenant (map values more) old new
+      → (AreNumbered was → IsNumbered (was tree)) → ((rows : TypedRows) → HoldsRows tenant rows was → HasRows values (of rows) (table tenant was))
+      → ((rows : TypedRows) → AreNumbered was → HoldsRows tenant rows was → StaysAside table tree tenant old new → HasRows values (of rows ++ more) (table tenant is) → MovesRows tenant (change rows) old.now new.now) → ChangesRows tenant Any change old new
+  rows_added values table tree of more change ours adds numbered holds moves = record {
     inside = adds.inside;
-    moves = λ rows can num held. moves rows num held (added_aside table tree added ours adds (numbered num));
+    moves = λ rows can num held. moves rows num held (added_aside table tree (map values more) ours adds (numbered num)) (with_more values (of rows) more (table tenant was) (table tenant is) (holds rows held) adds.own);
   }
 
   pub account_added : (a : Account) → AddsRows account_rows 5 tenant (account_values (account_cells a) ∷ []) old new → ChangesRows tenant Any (λ rows. record rows { accounts = rows.accounts ++ a ∷ [] }) old new
-  account_added a adds =
-      rows_added account_rows 5 _ _ refl adds (λ num. num.1.1.1.0)
-      (λ rows num held aside. account_moved tenant rows old new ledger num held (rows.accounts ++ a ∷ []) aside (with_more (λ row. account_values (account_cells row)) rows.accounts (a ∷ []) (account_rows tenant was) (account_rows tenant is) held.accounts adds.own))
+  account_added a adds = rows_added (λ row. account_values (account_cells row)) account_rows 5 (λ rows. rows.accounts) (a ∷ []) _ refl adds (λ num. num.1.1.1.0) (λ rows held. held.accounts) (λ rows num held. account_moved tenant rows old new ledger num held (rows.accounts ++ a ∷ []))
 
   pub transfer_added : (t : Transfer) → AddsRows transfer_rows 8 tenant (transfer_values (transfer_cells t) ∷ []) old new → ChangesRows tenant Any (λ rows. record rows { transfers = rows.transfers ++ t ∷ [] }) old new
-  transfer_added t adds =
-      rows_added transfer_rows 8 _ _ refl adds (λ num. num.1.1.1.1.0)
-      (λ rows num held aside. transfer_moved tenant rows old new ledger num held (rows.transfers ++ t ∷ []) aside (with_more (λ row. transfer_values (transfer_cells row)) rows.transfers (t ∷ []) (transfer_rows tenant was) (transfer_rows tenant is) held.transfers adds.own))
+  transfer_added t adds = rows_added (λ row. transfer_values (transfer_cells row)) transfer_rows 8 (λ rows. rows.transfers) (t ∷ []) _ refl adds (λ num. num.1.1.1.1.0) (λ rows held. held.transfers) (λ rows num held. transfer_moved tenant rows old new ledger num held (rows.transfers ++ t ∷ []))
 
   pub balance_added : (b : BalanceRow) → AddsRows balance_rows 11 tenant (balance_values (balance_cells b) ∷ []) old new → ChangesRows tenant Any (λ rows. record rows { balances = rows.balances ++ b ∷ [] }) old new
-  balance_added b adds =
-      rows_added balance_rows 11 _ _ refl adds (λ num. num.1.1.1.1.1.0)
-      (λ rows num held aside. balance_moved tenant rows old new ledger num held (rows.balances ++ b ∷ []) aside (with_more (λ row. balance_values (balance_cells row)) rows.balances (b ∷ []) (balance_rows tenant was) (balance_rows tenant is) held.balances adds.own))
+  balance_added b adds = rows_added (λ row. balance_values (balance_cells row)) balance_rows 11 (λ rows. rows.balances) (b ∷ []) _ refl adds (λ num. num.1.1.1.1.1.0) (λ rows held. held.balances) (λ rows num held. balance_moved tenant rows old new ledger num held (rows.balances ++ b ∷ []))
 
   pub status_added : (s : StatusRow) → AddsRows status_rows 13 tenant (status_values (status_cells s) ∷ []) old new → ChangesRows tenant Any (λ rows. record rows { statuses = rows.statuses ++ s ∷ [] }) old new
-  status_added s adds =
-      rows_added status_rows 13 _ _ refl adds (λ num. num.1.1.1.1.1.1.0)
-      (λ rows num held aside. status_moved tenant rows old new ledger num held (rows.statuses ++ s ∷ []) aside (with_more (λ row. status_values (status_cells row)) rows.statuses (s ∷ []) (status_rows tenant was) (status_rows tenant is) held.statuses adds.own))
+  status_added s adds = rows_added (λ row. status_values (status_cells row)) status_rows 13 (λ rows. rows.statuses) (s ∷ []) _ refl adds (λ num. num.1.1.1.1.1.1.0) (λ rows held. held.statuses) (λ rows num held. status_moved tenant rows old new ledger num held (rows.statuses ++ s ∷ []))
 
   pub history_added : (d c : HistoryRow) → AddsRows history_rows 15 tenant (history_values (history_cells d) ∷ history_values (history_cells c) ∷ []) old new → ChangesRows tenant Any (λ rows. record rows { history = rows.history ++ d ∷ c ∷ [] }) old new
-  history_added d c adds =
-      rows_added history_rows 15 _ _ refl adds (λ num. num.1.1.1.1.1.1.1.0)
-      (λ rows num held aside. history_moved tenant rows old new ledger num held (rows.history ++ d ∷ c ∷ []) aside (with_more (λ row. history_values (history_cells row)) rows.history (d ∷ c ∷ []) (history_rows tenant was) (history_rows tenant is) held.history adds.own))
+  history_added d c adds = rows_added (λ row. history_values (history_cells row)) history_rows 15 (λ rows. rows.history) (d ∷ c ∷ []) _ refl adds (λ num. num.1.1.1.1.1.1.1.0) (λ rows held. held.history) (λ rows num held. history_moved tenant rows old new ledger num held (rows.history ++ d ∷ c ∷ []))
 
   pub failed_added : (id : ℕ) → AddsRows failed_rows 17 tenant (id_values (column_of id) ∷ []) old new → ChangesRows tenant Any (λ rows. record rows { failed = rows.failed ++ id ∷ [] }) old new
-  failed_added id adds =
-      rows_added failed_rows 17 _ _ refl adds (λ num. num.1.1.1.1.1.1.1.1.0)
-      (λ rows num held aside. failed_moved tenant rows old new ledger num held (rows.failed ++ id ∷ []) aside (with_more (λ (other : ℕ). id_values (column_of other)) rows.failed (id ∷ []) (failed_rows tenant was) (failed_rows tenant is) held.failed adds.own))
+  failed_added id adds = rows_added (λ (other : ℕ). id_values (column_of other)) failed_rows 17 (λ rows. rows.failed) (id ∷ []) _ refl adds (λ num. num.1.1.1.1.1.1.1.1.0) (λ rows held. held.failed) (λ rows num held. failed_moved tenant rows old new ledger num held (rows.failed ++ id ∷ []))
 
   set_aside : (rows : ℤ → Trees → List Row) (tree : ℕ) (test : Row → Bool) (values : Row) → is_ours tree ≡ true → SetsRow rows tree tenant test values old new → StaysAside rows tree tenant old new
   set_aside rows tree test values ours sets = record { tables = sets.tables; others = sets.others; strangers = strangers_stay tree old new ours sets.inside.schema sets.tables; numbered = sets.numbered }

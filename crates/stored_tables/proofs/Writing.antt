@@ -18,8 +18,16 @@ use Rattle.stored_tables.specs.Holds.{HoldsRows, HoldsMachine}
 use Rattle.stored_tables.specs.InBatch.{KeepsRest, AreMarks, IsInBatchOf, IsInOwnBatch, shown}
 use Rattle.stored_tables.specs.MachineOf.{machine_of}
 use Rattle.stored_tables.specs.Meaning.{batch_meaning}
-use Rattle.stored_tables.specs.Moves.{MovesRows, ChangesRows}
+use Rattle.stored_tables.specs.Moves.{CanWrite, MovesRows, ChangesRows}
 use Rattle.stored_tables.proofs.Keeping.{shown_is}
+
+-- no write at all
+pub inside_itself : (s : State) → CanWrite s → WritesInside s s
+inside_itself s can = record {
+  schema = refl;
+  shown = record { was_open = can.is_open; is_open = can.is_open; now_is = refl; committed_is = refl; mode = can.inside.mode };
+  marks = refl;
+}
 
 pub inside_then : (a b c : State) → WritesInside a b → WritesInside b c → WritesInside a c
 inside_then a b c f g = record {

@@ -45,6 +45,25 @@ follows_then a b c f g = record {
   unmarked = λ live was. g.unmarked live (f.unmarked (live_before b c g live) was);
 }
 
+-- all rows are as they are
+pub keeps_itself : (tenant : ℤ) (trees : Trees) → KeepsRows tenant trees trees
+keeps_itself tenant trees = record {
+  clock = refl;
+  accounts = refl;
+  transfers = refl;
+  balances = refl;
+  statuses = refl;
+  history = refl;
+  failed = refl;
+}
+
+pub others_itself : (tenant : ℤ) (trees : Trees) → KeepsOtherTenants tenant trees trees
+others_itself tenant trees = record {
+  version = refl;
+  directory = refl;
+  others = λ other differs. keeps_itself other trees;
+}
+
 keeps_then :
     (tenant : ℤ) (a b c : Trees) → KeepsRows tenant a b → KeepsRows tenant b c →
     KeepsRows tenant a c
@@ -83,19 +102,7 @@ others_then tenant a b c f g = record {
 pub rest_itself : (tenant : ℤ) (db : Database) → KeepsRest tenant db db
 rest_itself tenant db = record {
   schema = refl;
-  others = record {
-    version = refl;
-    directory = refl;
-    others = λ other differs. record {
-      clock = refl;
-      accounts = refl;
-      transfers = refl;
-      balances = refl;
-      statuses = refl;
-      history = refl;
-      failed = refl;
-    };
-  };
+  others = others_itself tenant db.trees;
   strangers = refl;
 }
 

@@ -6,16 +6,12 @@ ghost use Rattle.records.specs.Accepted.{IsAccepted};
 ghost use Rattle.records.specs.Machine.{with_failed};
 ghost use Rattle.records.specs.Step.{max_clock};
 ghost use Rattle.records.specs.Valid.{IsNextAccount, with_account, with_transfer};
-ghost use Rattle.rows.specs.Changes.{with_accepted};
-ghost use Rattle.ledger_sql.specs.Calls.{Changes, IfClean};
-ghost use Rattle.ledger_sql.specs.Effects.{IsInside};
 ghost use Rattle.chain.specs.Tables.{Leaves, FailsNow, on_now};
-ghost use Rattle.stored_tables.specs.Covers.{Covers, HasDue};
+ghost use Rattle.stored_tables.specs.Covers.{Covers};
 ghost use Rattle.stored_tables.specs.Meaning.{batch_meaning, MayCall};
-ghost use Rattle.stored_tables.specs.Moves.{CanAccept, ChangesRows, HasBoundedTimes};
+ghost use Rattle.stored_tables.specs.Moves.{HasBoundedTimes};
 
 use crate::batch::TenantNumber;
-use crate::due_times::remember;
 use crate::entries::{write_account, write_transfer};
 use crate::failing::or_give_up;
 use crate::laws::held_machines;
@@ -73,28 +69,8 @@ pub(crate) fn accept_transfer<S: Alter>(
     rows_fit();
     keys_are_distinct();
     endings_are_told();
-    let done = keep_transfer(conn, due_times, tenant, accepted);
+    let done = write_transfer(conn, due_times, tenant, accepted);
     or_give_up(conn, done)
-}
-
-/// The same, without giving up.
-fn keep_transfer<S: Alter>(
-    conn: &mut Connection<S>,
-    due_times: &mut BTreeSet<(u64, u128)>,
-    tenant: TenantNumber,
-    accepted: &Accepted,
-) -> Result<(), Unavailable>
-    requires inside { IfClean IsInside S.Store conn.old }
-    requires times { HasBoundedTimes accepted.now.stored }
-    ensures changes { Changes
-        (ChangesRows tenant.0 (CanAccept accepted.now) (with_accepted accepted.now))
-        S.Store conn.old conn.new result }
-    ensures kept { OnOk result
-        (HasDue (contains ⟦<(u64, u128) as Ord>⟧.cmp due_times.new) accepted.now.stored) }
-    ensures grows { IsSubset ⟦<(u64, u128) as Ord>⟧.cmp due_times.old due_times.new }
-{
-    remember(due_times, &accepted.stored)?;
-    write_transfer(conn, tenant, accepted)
 }
 
 /// Keeps the id of a transfer that failed for good.

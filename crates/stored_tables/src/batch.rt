@@ -1,7 +1,12 @@
 use crate::failing::or_give_up;
-use crate::{accepting, account_entries, marking, reading, settling, spans};
+use crate::laws::{held_machines, point_reads};
+use crate::settling::move_clock;
+use crate::{accepting, account_entries, reading, spans};
 use chain::{AccountEntry, Tables};
+use ledger_sql::finding::{find_status, find_transfer, has_failed};
+use ledger_sql::stages;
 use records::{Accepted, Account, AccountWithBalances, PendingState, Span, Transfer, Unavailable};
+use rows::single_rows;
 use sqlite::{Alter, Connection};
 use std::alloc::Global;
 use std::collections::BTreeSet;
@@ -45,17 +50,22 @@ impl<S: Alter> Tables for Batch<'_, S> {
     }
 
     fn transfer(&mut self, id: u128) -> Result<Option<Transfer>, Unavailable> {
-        let found = reading::transfer(self.conn, self.tenant, id);
+        point_reads();
+        let found = find_transfer(self.conn, self.tenant.0, id);
         or_give_up(self.conn, found)
     }
 
     fn pending_state(&mut self, id: u128) -> Result<Option<PendingState>, Unavailable> {
-        let state = reading::pending_state(self.conn, self.tenant, id);
-        or_give_up(self.conn, state)
+        point_reads();
+        single_rows();
+        let found = find_status(self.conn, self.tenant.0, id);
+        let row = or_give_up(self.conn, found)?;
+        Ok(row.map(|row| row.state))
     }
 
     fn failed(&mut self, id: u128) -> Result<bool, Unavailable> {
-        let failed = reading::failed(self.conn, self.tenant, id);
+        point_reads();
+        let failed = has_failed(self.conn, self.tenant.0, id);
         or_give_up(self.conn, failed)
     }
 
@@ -84,7 +94,9 @@ impl<S: Alter> Tables for Batch<'_, S> {
     }
 
     fn settle(&mut self, clock: u64) -> Result<(), Unavailable> {
-        settling::settle(self.conn, self.due, self.tenant, self.past, clock)
+        held_machines();
+        let done = move_clock(self.conn, self.due, self.tenant, self.past, clock);
+        or_give_up(self.conn, done)
     }
 
     fn accept_account(&mut self, account: &Account) -> Result<(), Unavailable> {
@@ -100,15 +112,20 @@ impl<S: Alter> Tables for Batch<'_, S> {
     }
 
     fn mark(&mut self) -> Result<(), Unavailable> {
-        marking::mark(self.conn, self.tenant)
+        let done = stages::mark(self.conn);
+        or_give_up(self.conn, done)
     }
 
     fn back_to_mark(&mut self) -> Result<(), Unavailable> {
-        marking::back_to_mark(self.conn, self.tenant)
+        let undone = stages::back_to_mark(self.conn);
+        or_give_up(self.conn, undone)?;
+        let closed = stages::release_mark(self.conn);
+        or_give_up(self.conn, closed)
     }
 
     fn release_mark(&mut self) -> Result<(), Unavailable> {
-        marking::release_mark(self.conn, self.tenant)
+        let done = stages::release_mark(self.conn);
+        or_give_up(self.conn, done)
     }
 
     ghost stays = { λ a. (refl, refl, refl, λ key has. has, calls_itself _ _, refl) };

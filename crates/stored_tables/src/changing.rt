@@ -6,6 +6,7 @@ ghost use Rattle.rows.specs.Widths.{IsStorableStatus};
 ghost use Rattle.ledger_sql.specs.Calls.{Changes, FindsRows, IfClean};
 ghost use Rattle.ledger_sql.specs.Effects.{IsInside};
 ghost use Rattle.stored_tables.specs.Moves.{ChangesRows, IsThere, HasBoth, HasStatus, IsStatusOf};
+ghost use Rattle.stored_tables.specs.Releasing.{HasStatusRow};
 
 use crate::batch::TenantNumber;
 use amount::columns_keep_order;
@@ -65,22 +66,21 @@ pub(crate) fn status<S: Alter>(
     find_status(conn, tenant.0, id)
 }
 
-/// Sets what has become of a pending transfer. That it has no status is told as a disk that failed.
+/// Sets what has become of a pending transfer whose status row was read.
 pub(crate) fn set_state<S: Alter>(
     conn: &mut Connection<S>,
     tenant: TenantNumber,
-    id: u128,
+    row: &StatusRow,
     to: PendingState,
 ) -> Result<(), Unavailable>
-    requires { IfClean IsInside S.Store conn.old }
-    ensures { Changes (ChangesRows tenant.0 (λ rows. HasStatus id rows.statuses)
-        (λ rows. record rows { statuses = set_state id to rows.statuses }))
+    requires inside { IfClean IsInside S.Store conn.old }
+    requires told { IfClean (HasStatusRow tenant.0 row.now) S.Store conn.old }
+    requires fits { IsStorableStatus row.now }
+    ensures { Changes (ChangesRows tenant.0 (λ rows. HasStatus row.now.transfer rows.statuses)
+        (λ rows. record rows { statuses = set_state row.now.transfer to rows.statuses }))
         S.Store conn.old conn.new result }
 {
     columns_keep_order();
     found_by_key::<StatusRow>();
-    match status(conn, tenant, id)? {
-        Some(row) => set_status(conn, tenant.0, &StatusRow { state: to, ..row }),
-        None => Err(Unavailable::Disk),
-    }
+    set_status(conn, tenant.0, &StatusRow { state: to, ..*row })
 }

@@ -1,20 +1,26 @@
 //! The rows of new accounts and transfers.
 
-ghost use Rattle.std.specs.Prelude.{◌++◌, ◌≤◌};
+ghost use Rattle.std.specs.Prelude.{◌≡◌, ◌<◌, ◌≤◌, ◌^◌, List, [], ◌∷◌, Some, IfSome, OnOk};
+ghost use Rattle.std.specs.BTreeSet.{contains, IsSubset};
+ghost use Rattle.std.specs.Option.{option_to_list, ForSome};
 ghost use Rattle.records.specs.Step.{max_clock};
-ghost use Rattle.rows.specs.Changes.{with_opened, with_accepted, ended, new_statuses, new_history};
-ghost use Rattle.sqlite.specs.Held.{state};
+ghost use Rattle.engine.specs.EndingLaw.{ended_id};
+ghost use Rattle.rows.specs.Changes.{with_opened, with_accepted, ended, set_state};
+ghost use Rattle.rows.specs.Changes.{new_statuses, new_history};
 ghost use Rattle.ledger_sql.specs.Calls.{Changes, IfClean};
 ghost use Rattle.ledger_sql.specs.Effects.{IsInside};
+ghost use Rattle.stored_tables.specs.Covers.{HasDue};
 ghost use Rattle.stored_tables.specs.Moves.{Any, CanWrite, ChangesRows, CanAccept, CanEnd, HasBoundedTimes};
 
 use crate::batch::TenantNumber;
-use crate::changing::{set_both, set_state};
+use crate::changing::{set_both, set_state, status};
+use crate::due_times::remember;
 use engine::due;
 use ledger_sql::adding::{add_account, add_balance, add_history, add_status, add_transfer};
 use records::{Accepted, Account, Balances, Ending, PendingState, Transfer, Unavailable};
 use rows::{BalanceRow, HistoryRow, StatusRow};
 use sqlite::{Alter, Connection};
+use std::collections::BTreeSet;
 
 /// Writes the rows of a new account.
 pub(crate) fn write_account<S: Alter>(
@@ -36,18 +42,25 @@ pub(crate) fn write_account<S: Alter>(
 }
 
 /// Writes the rows of a new transfer: its own, the balances of its two accounts now and as history,
-/// and the state of the pending transfer that it ends or its own.
+/// and the state of the pending transfer that it ends or its own. Where it is a pending one with a
+/// due time, the set has both first.
 pub(crate) fn write_transfer<S: Alter>(
     conn: &mut Connection<S>,
+    due_times: &mut BTreeSet<(u64, u128)>,
     tenant: TenantNumber,
     accepted: &Accepted,
 ) -> Result<(), Unavailable>
     requires inside { IfClean IsInside S.Store conn.old }
     requires times { HasBoundedTimes accepted.now.stored }
-    ensures { Changes (ChangesRows tenant.0 (CanAccept accepted.now) (with_accepted accepted.now))
+    ensures changes { Changes
+        (ChangesRows tenant.0 (CanAccept accepted.now) (with_accepted accepted.now))
         S.Store conn.old conn.new result }
+    ensures kept { OnOk result
+        (HasDue (contains ⟦<(u64, u128) as Ord>⟧.cmp due_times.new) accepted.now.stored) }
+    ensures grows { IsSubset ⟦<(u64, u128) as Ord>⟧.cmp due_times.old due_times.new }
 {
     let stored = &accepted.stored;
+    remember(due_times, stored)?;
     add_transfer(conn, tenant.0, stored)?;
     set_both(
         conn,
@@ -57,11 +70,15 @@ pub(crate) fn write_transfer<S: Alter>(
         accepted.credit_after,
     )?;
     end_pending(conn, tenant, &accepted.ends)?;
-    open_pending(conn, tenant, stored)?;
-    write_history(conn, tenant, accepted)
+    if let Some(status) = new_status(stored) {
+        add_status(conn, tenant.0, &status)?;
+    }
+    let history = new_history(accepted);
+    add_history(conn, tenant.0, &history.0, &history.1)
 }
 
-/// Sets the state of the pending transfer that is ended, if one is.
+/// Sets the state of the pending transfer that is ended, if one is. That it has no status is told
+/// as a disk that failed.
 fn end_pending<S: Alter>(
     conn: &mut Connection<S>,
     tenant: TenantNumber,
@@ -72,48 +89,46 @@ fn end_pending<S: Alter>(
         (λ rows. record rows { statuses = ended ends.now rows.statuses }))
         S.Store conn.old conn.new result }
 {
-    match ends {
-        Some(Ending::Posted(id)) => set_state(conn, tenant, *id, PendingState::Posted),
-        Some(Ending::Voided(id)) => set_state(conn, tenant, *id, PendingState::Voided),
-        None => Ok(()),
+    let Some(ending) = ends else {
+        return Ok(());
+    };
+    let end = end_of(*ending);
+    let row = status(conn, tenant, end.0)?.ok_or(Unavailable::Disk)?;
+    set_state(conn, tenant, &row, end.1)
+}
+
+/// The pending transfer that is ended, and what becomes of it.
+fn end_of(ending: Ending) -> (u128, PendingState)
+    ensures id { result.0 ≡ ended_id ending }
+    ensures state { (rows : List StatusRow) →
+        ended (Some ending) rows ≡ set_state result.0 result.1 rows }
+{
+    match ending {
+        Ending::Posted(id) => (id, PendingState::Posted),
+        Ending::Voided(id) => (id, PendingState::Voided),
     }
 }
 
-/// Writes the status of a new transfer, if it is a pending one.
-fn open_pending<S: Alter>(
-    conn: &mut Connection<S>,
-    tenant: TenantNumber,
-    stored: &Transfer,
-) -> Result<(), Unavailable>
-    requires writing { IfClean CanWrite S.Store conn.old }
-    requires bounded { stored.now.timestamp ≤ max_clock }
-    ensures { Changes (ChangesRows tenant.0 Any
-        (λ rows. record rows { statuses = rows.statuses ++ new_statuses stored.now }))
-        S.Store conn.old conn.new result }
+/// The status of a new transfer, if it is a pending one.
+fn new_status(stored: &Transfer) -> Option<StatusRow>
+    requires { stored.now.timestamp ≤ max_clock }
+    ensures row { option_to_list result ≡ new_statuses stored.now }
+    ensures fits { IfSome result (λ row. ForSome row.due (λ due. due < 2 ^ 63)) }
 {
     if !stored.flags.is_pending() {
-        return Ok(());
+        return None;
     }
     stored.widths();
-    let row = StatusRow {
+    Some(StatusRow {
         transfer: stored.id,
         state: PendingState::Open,
         due: due(stored),
-    };
-    add_status(conn, tenant.0, &row)
+    })
 }
 
-/// Writes the balances of a new transfer's two accounts as history.
-fn write_history<S: Alter>(
-    conn: &mut Connection<S>,
-    tenant: TenantNumber,
-    accepted: &Accepted,
-) -> Result<(), Unavailable>
-    requires inside { IfClean IsInside S.Store conn.old }
-    requires bounded { accepted.now.stored.timestamp ≤ max_clock }
-    ensures { Changes (ChangesRows tenant.0 Any
-        (λ rows. record rows { history = rows.history ++ new_history accepted.now }))
-        S.Store conn.old conn.new result }
+/// The balances of a new transfer's two accounts, as history.
+fn new_history(accepted: &Accepted) -> (HistoryRow, HistoryRow)
+    ensures { result.0 ∷ result.1 ∷ [] ≡ new_history accepted.now }
 {
     let stored = &accepted.stored;
     let debit = HistoryRow {
@@ -126,5 +141,5 @@ fn write_history<S: Alter>(
         timestamp: stored.timestamp,
         balances: accepted.credit_after,
     };
-    add_history(conn, tenant.0, &debit, &credit)
+    (debit, credit)
 }

@@ -2,28 +2,26 @@
 
 ghost use Rattle.std.specs.Prelude.{◌≡◌, ℕ, ◌+◌, ◌≤◌, IfOk};
 ghost use Rattle.arrayvec.specs.ArrayVec.{array_vec_len};
-ghost use Rattle.records.specs.declared.facts.PendingState.TheVariants.{Expired};
 ghost use Rattle.records.specs.declared.side.Side.TheVariants.{Debit, Credit};
 ghost use Rattle.engine.specs.After.{balances_released};
-ghost use Rattle.rows.specs.Changes.{set_state};
 ghost use Rattle.rows.specs.Widths.{IsStorableStatus};
 ghost use Rattle.ledger_sql.specs.Calls.{Changes, IfClean, Learns, OverLedger};
 ghost use Rattle.ledger_sql.specs.Effects.{IsInside};
 ghost use Rattle.stored_tables.specs.Idle.{HasOpenStore};
 ghost use Rattle.stored_tables.specs.Kept.{kept_in};
-ghost use Rattle.stored_tables.specs.Moves.{ChangesRows, HasStatus};
-ghost use Rattle.stored_tables.specs.Releasing.{Expires, IsExpiry, IsTransferOf, AreBalancesOf};
-ghost use Rattle.stored_tables.specs.Releasing.{AreKeptBalancesOf, HasStatusRow, with_expiry};
+ghost use Rattle.stored_tables.specs.Releasing.{Expires, AreKeptBalancesOf, HasStatusRow};
+ghost use Rattle.stored_tables.specs.Releasing.{with_expiry};
 
 use crate::batch::TenantNumber;
+use crate::changing::set_state;
 use crate::expiry::Expiry;
 use crate::kept::{Kept, KeptRow, keep, kept_balances};
+use crate::reading;
 use amount::{Amount, columns_keep_order};
 use engine::release;
-use ledger_sql::finding::{find_balance, find_transfer};
-use ledger_sql::setting::set_status;
+use ledger_sql::finding::find_transfer;
 use records::{Balances, PendingState, Transfer, Unavailable};
-use rows::{BalanceRow, StatusRow, cells_tell_rows, found_by_key};
+use rows::{StatusRow, found_by_key};
 use sqlite::{Alter, Connection};
 
 /// Lets the pending transfer of this status row expire, inside a transaction, and keeps back what
@@ -43,43 +41,19 @@ pub(crate) fn expire<S: Alter>(
         (Expires tenant.0 row.now.transfer (kept_in kept.old.items) (kept_in kept.new.items))
         S.Store conn.old conn.new result }
 {
-    let expiry = expiry_of(conn, kept, tenant, row.transfer)?;
-    keep_both(kept, &expiry);
-    set_expired(conn, tenant, row)
-}
-
-/// What is left once the transfer with this id expires.
-fn expiry_of<S: Alter>(
-    conn: &mut Connection<S>,
-    kept: &Kept,
-    tenant: TenantNumber,
-    id: u128,
-) -> Result<Expiry, Unavailable>
-    ensures { Learns OverLedger (IsExpiry tenant.0 (kept_in kept.now.items) id)
-        S.Store conn.old conn.new result }
-{
-    let transfer = stored_transfer(conn, tenant, id)?;
+    columns_keep_order();
+    found_by_key::<Transfer>();
+    let transfer = find_transfer(conn, tenant.0, row.transfer)?.ok_or(Unavailable::Disk)?;
     let debit = balances_of(conn, kept, tenant, transfer.debit_account_id)?;
     let credit = balances_of(conn, kept, tenant, transfer.credit_account_id)?;
     let left = released(debit, credit, transfer.amount)?;
-    Ok(Expiry {
+    let expiry = Expiry {
         transfer,
         debit: left.0,
         credit: left.1,
-    })
-}
-
-/// The transfer with this id.
-fn stored_transfer<S: Alter>(
-    conn: &mut Connection<S>,
-    tenant: TenantNumber,
-    id: u128,
-) -> Result<Transfer, Unavailable>
-    ensures { Learns OverLedger (IsTransferOf tenant.0 id) S.Store conn.old conn.new result }
-{
-    columns_keep_order();
-    found_by_key::<Transfer>();
-    find_transfer(conn, tenant.0, id)?.ok_or(Unavailable::Disk)
+    };
+    keep_both(kept, &expiry);
+    set_state(conn, tenant, row, PendingState::Expired)
 }
 
 /// The balances of the account with this id: those that are kept, or else those that are stored.
@@ -95,24 +69,7 @@ fn balances_of<S: Alter>(
 {
     match kept_balances(kept, account) {
         Some(balances) => Ok(balances),
-        None => stored_balances(conn, tenant, account),
-    }
-}
-
-/// The stored balances of the account with this id.
-fn stored_balances<S: Alter>(
-    conn: &mut Connection<S>,
-    tenant: TenantNumber,
-    account: u128,
-) -> Result<Balances, Unavailable>
-    ensures { Learns OverLedger (AreBalancesOf tenant.0 account) S.Store conn.old conn.new result }
-{
-    columns_keep_order();
-    cells_tell_rows();
-    found_by_key::<BalanceRow>();
-    match find_balance(conn, tenant.0, account)? {
-        Some(row) => Ok(row.balances),
-        None => Err(Unavailable::Disk),
+        None => reading::balances(conn, tenant, account),
     }
 }
 
@@ -152,26 +109,4 @@ fn keep_both(kept: &mut Kept, expiry: &Expiry)
             balances: expiry.credit,
         },
     );
-}
-
-/// Sets the state of a pending transfer to expired, where its status row was read.
-fn set_expired<S: Alter>(
-    conn: &mut Connection<S>,
-    tenant: TenantNumber,
-    row: &StatusRow,
-) -> Result<(), Unavailable>
-    requires inside { IfClean IsInside S.Store conn.old }
-    requires told { IfClean (HasStatusRow tenant.0 row.now) S.Store conn.old }
-    requires fits { IsStorableStatus row.now }
-    ensures { Changes (ChangesRows tenant.0 (λ rows. HasStatus row.now.transfer rows.statuses)
-        (λ rows. record rows { statuses = set_state row.now.transfer Expired rows.statuses }))
-        S.Store conn.old conn.new result }
-{
-    columns_keep_order();
-    found_by_key::<StatusRow>();
-    let expired = StatusRow {
-        state: PendingState::Expired,
-        ..*row
-    };
-    set_status(conn, tenant.0, &expired)
 }

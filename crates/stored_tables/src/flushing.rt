@@ -1,14 +1,13 @@
 //! Balances that were kept back are written.
 
-ghost use Rattle.std.specs.Prelude.{◌≡◌, ◌↔◌, ◌+◌, ◌≤◌, [], IsTrue, OnOk};
-ghost use Rattle.arrayvec.specs.ArrayVec.{array_vec_len};
+ghost use Rattle.std.specs.Prelude.{◌≡◌, [], OnOk};
 ghost use Rattle.ledger_sql.specs.Calls.{Changes, IfClean};
 ghost use Rattle.stored_tables.specs.Kept.{kept_in, Flushes};
 ghost use Rattle.stored_tables.specs.Moves.{CanWrite};
 
 use crate::batch::TenantNumber;
 use crate::changing::set_balances;
-use crate::kept::{Kept, MOST};
+use crate::kept::Kept;
 use records::Unavailable;
 use sqlite::{Alter, Connection};
 
@@ -28,30 +27,4 @@ pub(crate) fn flush<S: Alter>(
         set_balances(conn, tenant, row.account, row.balances)?;
     }
     Ok(())
-}
-
-/// Writes all that is kept where there is no room for two accounts more.
-pub(crate) fn make_room<S: Alter>(
-    conn: &mut Connection<S>,
-    kept: &mut Kept,
-    tenant: TenantNumber,
-) -> Result<(), Unavailable>
-    requires { IfClean CanWrite S.Store conn.old }
-    ensures changes { Changes
-        (Flushes tenant.0 (kept_in kept.old.items) (kept_in kept.new.items))
-        S.Store conn.old conn.new result }
-    ensures room { OnOk result (array_vec_len kept.new + 2 ≤ 128) }
-{
-    if has_room(kept) {
-        Ok(())
-    } else {
-        flush(conn, kept, tenant)
-    }
-}
-
-/// Whether there is room for two accounts more.
-fn has_room(kept: &Kept) -> bool
-    ensures { IsTrue result ↔ (array_vec_len kept.now + 2 ≤ 128) }
-{
-    kept.len() + 2 <= MOST
 }

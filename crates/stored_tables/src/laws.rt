@@ -6,17 +6,16 @@ ghost use Rattle.std.specs.List.{list_any};
 ghost use Rattle.amount.specs.Column.{column_of};
 ghost use Rattle.records.specs.Machine.{Machine, account_with, transfer_with};
 ghost use Rattle.records.specs.Machine.{has_id as is_among};
-ghost use Rattle.rows.specs.Cells.{account_cells, transfer_cells, balance_cells, status_cells};
+ghost use Rattle.rows.specs.Cells.{account_cells, transfer_cells, status_cells};
 ghost use Rattle.rows.specs.Keyed.{row_with};
 ghost use Rattle.rows.specs.Prescribed.{rows_for};
-ghost use Rattle.rows.specs.Widths.{IsStorableAccount, IsStorableTransfer};
-ghost use Rattle.rows.specs.Widths.{IsStorableBalance, IsStorableStatus};
+ghost use Rattle.rows.specs.Widths.{IsStorableAccount, IsStorableTransfer, IsStorableStatus};
 ghost use Rattle.sqlite_trees.specs.Tree.{Trees};
 ghost use Rattle.ledger_sql.specs.Effects.{Picks};
-ghost use Rattle.ledger_sql.specs.TableRows.{clock_rows, account_rows, transfer_rows, balance_rows};
-ghost use Rattle.ledger_sql.specs.TableRows.{status_rows, failed_rows, has_id};
+ghost use Rattle.ledger_sql.specs.TableRows.{clock_rows, account_rows, transfer_rows, status_rows};
+ghost use Rattle.ledger_sql.specs.TableRows.{failed_rows, has_id};
 ghost use Rattle.ledger_sql.specs.Values.{clock_values, account_values, transfer_values};
-ghost use Rattle.ledger_sql.specs.Values.{balance_values, status_values};
+ghost use Rattle.ledger_sql.specs.Values.{status_values};
 ghost use Rattle.stored_tables.specs.Found.{TellsById};
 ghost use Rattle.stored_tables.specs.Holds.{HoldsMachine};
 ghost use Rattle.stored_tables.specs.MachineOf.{machine_of};
@@ -24,8 +23,8 @@ ghost use Rattle.stored_tables.specs.MachineOf.{machine_of};
 use amount::columns_keep_order;
 use records::{Account, Transfer};
 use rows::{
-    BalanceRow, StatusRow, cells_tell_rows, found_by_key, keys_are_distinct, read_in_order,
-    rows_fit, rows_stand_in_order,
+    StatusRow, cells_tell_rows, found_by_key, keys_are_distinct, read_in_order, rows_fit,
+    rows_stand_in_order,
 };
 
 /// A tenant's machine is the one that its rows tell.
@@ -50,8 +49,6 @@ pub(crate) fn point_reads()
         account_rows (λ id m. account_with id m.accounts) }
     ensures transfer { TellsById IsStorableTransfer (λ row. transfer_values (transfer_cells row))
         transfer_rows (λ id m. transfer_with id m.transfers) }
-    ensures balance { TellsById IsStorableBalance (λ row. balance_values (balance_cells row))
-        balance_rows (λ id m. row_with (λ row. row.account) id (rows_for 3 m).balances) }
     ensures status { TellsById IsStorableStatus (λ row. status_values (status_cells row))
         status_rows (λ id m. row_with (λ row. row.transfer) id (rows_for 3 m).statuses) }
     ensures failed { (tenant : ℤ) (m : Machine) (trees : Trees) (id : ℕ) →
@@ -64,6 +61,5 @@ pub(crate) fn point_reads()
     keys_are_distinct();
     found_by_key::<Account>();
     found_by_key::<Transfer>();
-    found_by_key::<BalanceRow>();
     found_by_key::<StatusRow>();
 }

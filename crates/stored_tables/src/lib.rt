@@ -15,7 +15,6 @@ mod failing;
 mod flushing;
 mod kept;
 mod laws;
-mod marking;
 mod reading;
 mod settling;
 mod spans;

@@ -1,27 +1,20 @@
 //! The clock of a tenant, and what is due at it.
 
-ghost use Rattle.std.specs.Prelude.{◌≡◌, ◌+◌, ◌≤◌};
+ghost use Rattle.std.specs.Prelude.{◌≡◌, ◌≤◌};
 ghost use Rattle.std.specs.BTreeSet.{contains};
-ghost use Rattle.arrayvec.specs.ArrayVec.{array_vec_len};
 ghost use Rattle.records.specs.Due.{has_come};
-ghost use Rattle.records.specs.Step.{at_clock, max_clock};
+ghost use Rattle.records.specs.Step.{max_clock};
 ghost use Rattle.rows.specs.Settling.{is_due_row};
 ghost use Rattle.ledger_sql.specs.Calls.{Changes, IfClean};
-ghost use Rattle.ledger_sql.specs.Effects.{IsInside};
-ghost use Rattle.chain.specs.Tables.{Leaves, on_now};
-ghost use Rattle.stored_tables.specs.Covers.{Covers};
 ghost use Rattle.stored_tables.specs.Kept.{kept_in};
-ghost use Rattle.stored_tables.specs.Meaning.{batch_meaning, MayCall};
 ghost use Rattle.stored_tables.specs.Moves.{CanWrite};
-ghost use Rattle.stored_tables.specs.Releasing.{ReleasesOne, ReleasesDue, MovesClock};
+ghost use Rattle.stored_tables.specs.Releasing.{ReleasesOne, MovesClock};
 
 use crate::batch::TenantNumber;
 use crate::changing::status;
 use crate::expiring::expire;
-use crate::failing::or_give_up;
-use crate::flushing::{flush, make_room};
-use crate::kept::Kept;
-use crate::laws::held_machines;
+use crate::flushing::flush;
+use crate::kept::{Kept, MOST};
 use ledger_sql::setting::set_clock;
 use records::{PendingState, Unavailable};
 use rows::{StatusRow, clock_rows, keys_are_distinct, rows_fit};
@@ -29,28 +22,10 @@ use sqlite::{Alter, Connection};
 use std::collections::BTreeSet;
 
 /// Sets the clock, in nanoseconds, and releases what is due at it: of the set the transfers alone
-/// are looked at that fell due since a past moment, at which the tenant's clock was already.
-pub(crate) fn settle<S: Alter>(
-    conn: &mut Connection<S>,
-    due: &BTreeSet<(u64, u128)>,
-    tenant: TenantNumber,
-    past: u64,
-    clock: u64,
-) -> Result<(), Unavailable>
-    requires may { MayCall (batch_meaning S.Store tenant.0)
-        (λ s. Covers (contains ⟦<(u64, u128) as Ord>⟧.cmp due.now) s.now
-        × (past ≤ s.now.clock) × (s.now.clock ≤ clock)) conn.old }
-    requires bounded { clock ≤ max_clock }
-    ensures { Leaves (batch_meaning S.Store tenant.0) conn.old conn.new result
-        (on_now (λ m. at_clock m clock)) }
-{
-    held_machines();
-    let done = move_clock(conn, due, tenant, past, clock);
-    or_give_up(conn, done)
-}
-
-/// Releases what is due at the clock, and sets it.
-fn move_clock<S: Alter>(
+/// are looked at that fell due since a past moment, at which the tenant's clock was already. The
+/// balances of an account are kept back and written once, unless there are more accounts than have
+/// room.
+pub(crate) fn move_clock<S: Alter>(
     conn: &mut Connection<S>,
     due: &BTreeSet<(u64, u128)>,
     tenant: TenantNumber,
@@ -63,25 +38,6 @@ fn move_clock<S: Alter>(
         S.Store conn.old conn.new result }
 {
     clock_rows();
-    release_due(conn, due, tenant, past, clock)?;
-    set_clock(conn, tenant.0, clock)
-}
-
-/// Releases what is due at the clock, and was not so at the past moment. The balances of an account
-/// are kept back and written once, unless there are more accounts than have room.
-fn release_due<S: Alter>(
-    conn: &mut Connection<S>,
-    due: &BTreeSet<(u64, u128)>,
-    tenant: TenantNumber,
-    past: u64,
-    clock: u64,
-) -> Result<(), Unavailable>
-    requires { IfClean CanWrite S.Store conn.old }
-    ensures { Changes (ReleasesDue tenant.0 past clock
-        (contains ⟦<(u64, u128) as Ord>⟧.cmp due.now))
-        S.Store conn.old conn.new result }
-{
-    clock_rows();
     rows_fit();
     keys_are_distinct();
     let from = past.min(clock);
@@ -89,10 +45,12 @@ fn release_due<S: Alter>(
     for entry in due.range((from, u128::MAX)..=(clock, u128::MAX)) {
         release_next(conn, &mut kept, tenant, clock, entry.1)?;
     }
-    flush(conn, &mut kept, tenant)
+    flush(conn, &mut kept, tenant)?;
+    set_clock(conn, tenant.0, clock)
 }
 
-/// Releases a transfer that is open and due at the clock, once there is room for its balances.
+/// Releases a transfer that is open and due at the clock, once there is room for its balances. A
+/// set of due times may have others, which stay.
 fn release_next<S: Alter>(
     conn: &mut Connection<S>,
     kept: &mut Kept,
@@ -105,25 +63,10 @@ fn release_next<S: Alter>(
         (ReleasesOne tenant.0 clock id (kept_in kept.old.items) (kept_in kept.new.items))
         S.Store conn.old conn.new result }
 {
-    make_room(conn, kept, tenant)?;
-    release_if_due(conn, kept, tenant, clock, id)
-}
-
-/// The same, where there is room. A set of due times may have others, which stay.
-fn release_if_due<S: Alter>(
-    conn: &mut Connection<S>,
-    kept: &mut Kept,
-    tenant: TenantNumber,
-    clock: u64,
-    id: u128,
-) -> Result<(), Unavailable>
-    requires inside { IfClean IsInside S.Store conn.old }
-    requires room { array_vec_len kept.old + 2 ≤ 128 }
-    ensures { Changes
-        (ReleasesOne tenant.0 clock id (kept_in kept.old.items) (kept_in kept.new.items))
-        S.Store conn.old conn.new result }
-{
     clock_rows();
+    if kept.len() + 2 > MOST {
+        flush(conn, kept, tenant)?;
+    }
     let Some(row) = status(conn, tenant, id)? else {
         return Ok(());
     };

@@ -73,10 +73,6 @@ module _ {S : Type 0} (t : RunMeaning S) (n : NamesMeaning S) (Refuses : Refused
     step_more (step.Request bytes moment) (answer.Replied reply) makes =
         event_step (step.Request bytes moment) (answer.Replied reply) makes.0.event makes.0.is
         (subst IsFree (sym makes.0.is.is) (λ events. tt)) makes.0.moves
-    step_more (step.Request bytes moment) (answer.Round result) makes = absurd makes
-    step_more (step.Request bytes moment) (answer.Added result) makes = absurd makes
-    step_more (step.Request bytes moment) (answer.Keyed result) makes = absurd makes
-    step_more (step.Request bytes moment) (answer.Reopened result) makes = absurd makes
     step_more (step.Round messages) (answer.Round (Ok replies)) makes =
         round_more t (HaveComeSince (t.tenants old) steps answers)
         (HaveComeSince (t.tenants old) (steps ++ step.Round messages ∷ [])
@@ -96,25 +92,13 @@ module _ {S : Type 0} (t : RunMeaning S) (n : NamesMeaning S) (Refuses : Refused
         t mid
         (step_on (t.tenants old) steps answers (step.Round messages) (answer.Round (Err why)) [] tt)
         run)
-    step_more (step.Round messages) (answer.Replied reply) makes = absurd makes
-    step_more (step.Round messages) (answer.Added result) makes = absurd makes
-    step_more (step.Round messages) (answer.Keyed result) makes = absurd makes
-    step_more (step.Round messages) (answer.Reopened result) makes = absurd makes
     step_more (step.AddTenant name digest) (answer.Added result) makes =
         event_step (step.AddTenant name digest) (answer.Added result)
         (Tried (Joined digest) (ending_of result)) refl (λ events. tt) makes.0
-    step_more (step.AddTenant name digest) (answer.Replied reply) makes = absurd makes
-    step_more (step.AddTenant name digest) (answer.Round result) makes = absurd makes
-    step_more (step.AddTenant name digest) (answer.Keyed result) makes = absurd makes
-    step_more (step.AddTenant name digest) (answer.Reopened result) makes = absurd makes
     step_more (step.ChangeKey name digest) (answer.Keyed result) makes =
         event_step (step.ChangeKey name digest) (answer.Keyed result)
         (Tried (Keyed makes.0.was digest) (key_ending result)) (makes.0.was, refl) (λ events. tt)
         makes.0.moves
-    step_more (step.ChangeKey name digest) (answer.Replied reply) makes = absurd makes
-    step_more (step.ChangeKey name digest) (answer.Round result) makes = absurd makes
-    step_more (step.ChangeKey name digest) (answer.Added result) makes = absurd makes
-    step_more (step.ChangeKey name digest) (answer.Reopened result) makes = absurd makes
     step_more step.Reopen (answer.Reopened (Ok done)) makes =
         opened_more (HaveComeSince (t.tenants old) steps answers)
         (HaveComeSince (t.tenants old) (steps ++ step.Reopen ∷ []) (answers ++ answer.Reopened (Ok tt) ∷ []))
@@ -125,10 +109,7 @@ module _ {S : Type 0} (t : RunMeaning S) (n : NamesMeaning S) (Refuses : Refused
         makes.0 run
     step_more step.Reopen (answer.Reopened (Err refused)) makes =
         refused_more refused makes.0 refused.stands refl
-    step_more step.Reopen (answer.Replied reply) makes = absurd makes
-    step_more step.Reopen (answer.Round result) makes = absurd makes
-    step_more step.Reopen (answer.Added result) makes = absurd makes
-    step_more step.Reopen (answer.Keyed result) makes = absurd makes
+    step_more step answer makes = absurd makes
 
 -- before the first step
 pub none_yet :
@@ -155,40 +136,36 @@ take_step steps i step below is =
     rw add-one
     (take-suc steps i step below ∙ ap (λ (s : Step). take i steps ++ s ∷ []) (sym is))
 
-pub run_on :
-    {S : Type 0} (t : RunMeaning S) (n : NamesMeaning S) (Refuses : Refused → S → S → Type 0)
-    (old mid new : S) (steps : List Step) (answers more : List Answer) (i : ℕ) (step : Step) (answer : Answer) → i < length steps →
-    step ≡ get_or steps i step → more ≡ answers ++ answer ∷ [] →
-    HasRun t old (take i steps) answers mid → StepMakes t n Refuses mid step answer new →
-    HasRun t old (take (i + 1) steps) more new
-run_on t n Refuses old mid new steps answers more i step answer below is grown run makes =
-    rw (take_step steps i step below is, grown)
-    (step_more t n Refuses old mid new (take i steps) answers run step answer makes)
-
-pub named_on :
-    {S : Type 0} (t : RunMeaning S) (n : NamesMeaning S) (Refuses : Refused → S → S → Type 0)
+-- so what has come of a run goes on
+module _ {S : Type 0} (t : RunMeaning S) (n : NamesMeaning S) (Refuses : Refused → S → S → Type 0)
     (old mid new : S) (steps : List Step) (answers more : List Answer) (i : ℕ) (step : Step)
-    (answer : Answer) → i < length steps → step ≡ get_or steps i step →
-    more ≡ answers ++ answer ∷ [] → HasNamed t n old (take i steps) answers mid →
-    StepMakes t n Refuses mid step answer new → HasNamed t n old (take (i + 1) steps) more new
-named_on t n Refuses old mid new steps answers more i step answer below is grown named makes =
-    rw (take_step steps i step below is, grown)
-    (named_more t n Refuses old mid new (take i steps) answers named step answer makes)
+    (answer : Answer) (below : i < length steps) (is : step ≡ get_or steps i step)
+    (grown : more ≡ answers ++ answer ∷ [])
+  where
+    pub run_on :
+        HasRun t old (take i steps) answers mid → StepMakes t n Refuses mid step answer new →
+        HasRun t old (take (i + 1) steps) more new
+    run_on run makes =
+        rw (take_step steps i step below is, grown)
+        (step_more t n Refuses old mid new (take i steps) answers run step answer makes)
 
-pub through_on :
-    {S : Type 0} (t : RunMeaning S) (n : NamesMeaning S) (Refuses : Refused → S → S → Type 0)
-    (old mid new : S) (steps : List Step) (answers more : List Answer) (i : ℕ) (step : Step)
-    (answer : Answer) → i < length steps → step ≡ get_or steps i step →
-    more ≡ answers ++ answer ∷ [] → RunsThrough t n Refuses old (take i steps) answers mid →
-    HasRun t old (take i steps) answers mid → HasNamed t n old (take i steps) answers mid →
-    StepMakes t n Refuses mid step answer new → IsInOrder t n new →
-    RunsThrough t n Refuses old (take (i + 1) steps) more new
-through_on t n Refuses old mid new steps answers more i step answer below is grown through run
-    named makes settled =
-    rw (take_step steps i step below is, grown)
-    (Goes_on (take i steps) answers mid step answer new through makes settled
-    (step_more t n Refuses old mid new (take i steps) answers run step answer makes)
-    (named_more t n Refuses old mid new (take i steps) answers named step answer makes))
+    pub named_on :
+        HasNamed t n old (take i steps) answers mid → StepMakes t n Refuses mid step answer new →
+        HasNamed t n old (take (i + 1) steps) more new
+    named_on named makes =
+        rw (take_step steps i step below is, grown)
+        (named_more t n Refuses old mid new (take i steps) answers named step answer makes)
+
+    pub through_on :
+        RunsThrough t n Refuses old (take i steps) answers mid →
+        HasRun t old (take i steps) answers mid → HasNamed t n old (take i steps) answers mid →
+        StepMakes t n Refuses mid step answer new → IsInOrder t n new →
+        RunsThrough t n Refuses old (take (i + 1) steps) more new
+    through_on through run named makes settled =
+        rw (take_step steps i step below is, grown)
+        (Goes_on (take i steps) answers mid step answer new through makes settled
+        (step_more t n Refuses old mid new (take i steps) answers run step answer makes)
+        (named_more t n Refuses old mid new (take i steps) answers named step answer makes))
 
 pub answered_on :
     (steps : List Step) (answers more : List Answer) (i : ℕ) (step : Step) (answer : Answer) →

@@ -1,5 +1,5 @@
 -- The names that an opening may find in a store's files, behind each call.
-use Rattle.std.proofs.Common.{◌≡◌, ◌≢◌, ◌⊎◌, inl, inr, Bool, true, false, List, Result, Ok, Err, OnOk, IfErr}
+use Rattle.std.proofs.Common.{◌≡◌, ◌≢◌, ◌⊎◌, inl, inr, Bool, true, List, Result, Ok, Err, OnOk, IfErr}
 use Rattle.std.proofs.Common.{refl, sym, ap, subst, ◌∙◌}
 use Rattle.std.proofs.Math.Logic.{∥∥₁_map}
 use Rattle.std.proofs.lemmas.Bool.{both_ways, cases_Bool}
@@ -17,8 +17,8 @@ use Rattle.stored_ledgers.specs.DueSets.{DueSets}
 use Rattle.stored_ledgers.specs.Ledger.{HoldsLedgers}
 use Rattle.stored_ledgers.specs.Names.{Names, KeepsNames, first_named, names_in}
 use Rattle.store.specs.Names.{FindsNames, names_at, names_of}
-use Rattle.store.specs.StoreLaws.{store_meaning, found_directory}
-use Rattle.store.specs.Stores.{Continues, StoreFinds, FindsAt, StoreFollows, Goes, IsHonest, IsHonestAt, IsLive}
+use Rattle.store.specs.StoreLaws.{store_meaning, found_directory, finds_shown, opened_shown, honest_at, found_live_at}
+use Rattle.store.specs.Stores.{AnswersUnless, Continues, StoreFinds, Goes, IsHonest, IsHonestAt, IsLive}
 use Rattle.store.specs.Stores.{IsLiveAt, IsSettledAt, IsSettledStore, IsUsable, IsUsableAt, LeavesStore}
 use Rattle.store.specs.Stores.{OfDatabase, OfDatabaseAt, may_find, may_find_at}
 use Rattle.store.specs.declared.place.Place.{Place}
@@ -29,21 +29,10 @@ use Rattle.whole_runs.specs.StoredNames.{store_names}
 use Rattle.whole_runs.proofs.StoreNames.{names_stay}
 
 module _ {D : Type 0} {g : disk.Ghosts D} where
-  settled_at : (ready : Bool) (sets : DueSets) (place : Place D g) (db : Trees) → IsSettledAt place
-      → IsUsableAt ready sets place → IsLiveAt place → may_find_at place db
-      → KeepsNames (names_at place) (names_in db)
-  settled_at ready sets (at.Open conn) db settled usable live may name =
-      ap (λ (trees : Trees). names_in trees name)
-      (settled.only live.1 db may
-      ∙ sym (ap (λ (now : Database). now.trees) (usable.0 live).quiet.settled))
-  settled_at ready sets (at.Shut files) db settled usable live may name = absurd live
-
   -- while a store is open, an opening finds the names that are there
   pub finds_own : (store : Store D g) → IsSettledStore store → IsUsable store → IsLive store
       → (found : Names) → FindsNames store found → KeepsNames (names_of store) found
-  finds_own store settled usable live found f name =
-      f.agrees name
-      ∙ settled_at store.ready store.due store.place f.db settled usable live f.may name
+  finds_own = finds_shown names_in names_at (λ conn. refl)
 
   stays_at : (ready : Bool) (sets : DueSets) (place : Place D g) → IsSettledAt place
       → IsUsableAt ready sets place → IsLiveAt place
@@ -55,10 +44,6 @@ module _ {D : Type 0} {g : disk.Ghosts D} where
     refl,
   )
   stays_at ready sets (at.Shut files) settled usable live = absurd live
-
-  honest_at : (place : Place D g) → IsLiveAt place → IsHonestAt place
-  honest_at (at.Open conn) live = live.0
-  honest_at (at.Shut files) live = absurd live
 
   -- and it may find them
   found_own : (store : Store D g) → IsSettledStore store → IsUsable store → IsLive store
@@ -98,9 +83,8 @@ module _ {D : Type 0} {g : disk.Ghosts D} where
       (law : (before : Database) (db : Trees) → HoldsLedgers before → After before db
       → Changes (names_in before.trees) (names_in db))
       (old new : Store D g) (settled : IsSettledStore old) (usable : IsUsable old)
-      (follows : StoreFollows old new) (unready : old.ready ≡ false → new ≡ old)
-      (goes : Goes old new (λ db. OfDatabase (λ was. After was db) old))
-      (settled' : IsSettledStore new) (usable' : IsUsable new) where
+      (goes : Goes old new (λ db. OfDatabase (λ was. After was db) old)) (settled' : IsSettledStore new)
+      {F : Type 0} {fault : F} {result : Result (Unit {0}) F} (answers : AnswersUnless fault old new result) where
     abbrev Ends : Ending → Names → Type 0
     Ends ending found =
         ∥ AsEnded ending (FindsNames old found) ((IsLive old × IsUsable old) × Changes (names_of old) found) ∥₁
@@ -115,13 +99,13 @@ module _ {D : Type 0} {g : disk.Ghosts D} where
     after_crash : (found : Names) (f : FindsNames new found) → old.ready ≡ true
         → may_find old f.db ⊎ OfDatabase (λ was. After was f.db) old → Ends Unavailable found
     after_crash found f ready (inl before) = ∣ inl (record {
-      honest = follows.honest f.honest;
+      honest = answers.follows.honest f.honest;
       db = f.db;
       may = before;
       agrees = f.agrees;
     }) ∣₁
     after_crash found f ready (inr after) =
-        let live = live_at old.ready old.due old.place ready usable (follows.honest f.honest) in
+        let live = live_at old.ready old.due old.place ready usable (answers.follows.honest f.honest) in
         let same : names_in f.db ≡ found = λ i name. sym (f.agrees name) i in
         ∣ inr (
           (live, usable),
@@ -129,40 +113,32 @@ module _ {D : Type 0} {g : disk.Ghosts D} where
               (crash_at old.ready old.due old.place usable live f.db after),
         ) ∣₁
 
-    pub found_tried : (ending : Ending)
+    found_by_ending : (ending : Ending)
         → (IsLive new → AsEnded ending (KeepsNames (names_of old) (names_of new))
         (Changes (names_of old) (names_of new)))
         → (IsHonest new → ending ≢ Unavailable → IsLive new)
         → (found : Names) → FindsNames new found → Ends ending found
-    found_tried Done told open_yet found f =
+    found_by_ending Done told open_yet found f =
         let live = open_yet f.honest (λ is. cc) in
         let same : names_of new ≡ found =
-        λ i name. sym (finds_own new settled' usable' live found f name) i in
-        ∣ ((follows.lived live, usable), subst (Changes (names_of old)) same (told live)) ∣₁
-    found_tried Declined told open_yet found f =
+        λ i name. sym (finds_own new settled' answers.usable live found f name) i in
+        ∣ ((answers.follows.lived live, usable), subst (Changes (names_of old)) same (told live)) ∣₁
+    found_by_ending Declined told open_yet found f =
         let live = open_yet f.honest (λ is. cc) in
-        ∣ found_own old settled usable (follows.lived live) found
-        (λ name. finds_own new settled' usable' live found f name ∙ told live name) ∣₁
-    found_tried Unavailable told open_yet found f = elim (cases_Bool old.ready) [
+        ∣ found_own old settled usable (answers.follows.lived live) found
+        (λ name. finds_own new settled' answers.usable live found f name ∙ told live name) ∣₁
+    found_by_ending Unavailable told open_yet found f = elim (cases_Bool old.ready) [
       | inl ready ↦ after_crash found f ready (goes f.honest f.db f.may)
-      | inr shut ↦ ∣ inl (subst (λ (s : Store D g). FindsNames s found) (unready shut) f) ∣₁
+      | inr shut ↦ ∣ inl (subst (λ (s : Store D g). FindsNames s found) (answers.refuses shut).1 f) ∣₁
     ]
 
-  opened_at : (old : Store D g) (place : Place D g) → IsHonest old → FindsAt (may_find old) place
-      → ∥ FindsNames old (names_at place) ∥₁
-  opened_at old (at.Open conn) honest finds =
-      ∥∥₁_map finds.1 (λ may. record {
-        honest = honest;
-        db = (file_state conn).now.trees;
-        may = may;
-        agrees = λ name. refl;
-      })
-  opened_at old (at.Shut files) honest finds = absurd finds
-
-  found_live_at : (X : Trees → Type 0) (place : Place D g) → IsHonestAt place → FindsAt X place
-      → IsLiveAt place
-  found_live_at X (at.Open conn) honest finds = (honest, finds.0)
-  found_live_at X (at.Shut files) honest finds = absurd finds
+    pub found_tried : (ending : Result (Unit {0}) F → Ending) → ending (Err fault) ≡ Unavailable
+        → (IsLive new → AsEnded (ending result) (KeepsNames (names_of old) (names_of new))
+        (Changes (names_of old) (names_of new)))
+        → (found : Names) → FindsNames new found → Ends (ending result) found
+    found_tried ending unavailable told =
+        found_by_ending (ending result) told
+        (λ honest differs. answers.open_yet honest (λ is. differs (ap ending is ∙ unavailable)))
 
   -- an opening again
   pub names_reopened : (old new : Store D g) (result : Result (Unit {0}) Refused)
@@ -173,7 +149,8 @@ module _ {D : Type 0} {g : disk.Ghosts D} where
       → ReopensNames (run_meaning (in_use store_meaning)) store_names old result new
   names_reopened old new (Ok done) settled usable finds honest left = record {
     member = λ live.
-        let now = honest_at new.place live.0 in opened_at old new.place (honest now) (finds now);
+        let now = honest_at new.place live.0 in
+        opened_shown names_in names_at (λ conn. refl) old new.place (honest now) (finds now);
     found = λ found f.
         let live = found_live_at (may_find old) new.place f.honest (finds f.honest) in
         ((live, usable), finds_own new settled usable live found f);

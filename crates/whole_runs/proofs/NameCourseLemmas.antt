@@ -60,28 +60,10 @@ go_there :
 go_there (step.AddTenant given digest) (answer.Added result) was names go name there =
     as_ended (ending_of result) go (λ keeps. kept_there was names name keeps there)
     (λ adds. given_there given digest was names name adds.1 there)
-go_there (step.AddTenant given digest) (answer.Replied reply) was names go name there =
-    kept_there was names name go there
-go_there (step.AddTenant given digest) (answer.Round result) was names go name there =
-    kept_there was names name go there
-go_there (step.AddTenant given digest) (answer.Keyed result) was names go name there =
-    kept_there was names name go there
-go_there (step.AddTenant given digest) (answer.Reopened result) was names go name there =
-    kept_there was names name go there
 go_there (step.ChangeKey given digest) (answer.Keyed result) was names go name there =
     as_ended (key_ending result) go (λ keeps. kept_there was names name keeps there)
     (λ moves. given_there given digest was names name moves.1 there)
-go_there (step.ChangeKey given digest) (answer.Replied reply) was names go name there =
-    kept_there was names name go there
-go_there (step.ChangeKey given digest) (answer.Round result) was names go name there =
-    kept_there was names name go there
-go_there (step.ChangeKey given digest) (answer.Added result) was names go name there =
-    kept_there was names name go there
-go_there (step.ChangeKey given digest) (answer.Reopened result) was names go name there =
-    kept_there was names name go there
-go_there (step.Request bytes moment) a was names go name there = kept_there was names name go there
-go_there (step.Round messages) a was names go name there = kept_there was names name go there
-go_there step.Reopen a was names go name there = kept_there was names name go there
+go_there s a was names go name there = kept_there was names name go there
 
 -- and keeps its digest, unless another is given to it
 go_same :
@@ -91,25 +73,10 @@ go_same (step.AddTenant given key) (answer.Added result) was names go name diges
     as_ended (ending_of result) go (λ keeps. keeps name ∙ is)
     (λ adds. adds.1.others name (λ same.
     let none : Some digest ≡ None = sym is ∙ (ap was same ∙ adds.0) in cc) ∙ is)
-go_same (step.AddTenant given key) (answer.Replied reply) was names go name digest leaves is = go name ∙ is
-go_same (step.AddTenant given key) (answer.Round result) was names go name digest leaves is = go name ∙ is
-go_same (step.AddTenant given key) (answer.Keyed result) was names go name digest leaves is = go name ∙ is
-go_same (step.AddTenant given key) (answer.Reopened result) was names go name digest leaves is =
-    go name ∙ is
 go_same (step.ChangeKey given key) (answer.Keyed result) was names go name digest leaves is =
     as_ended (key_ending result) go (λ keeps. keeps name ∙ is)
     (λ moves. moves.1.others name (λ same. leaves (sym same)) ∙ is)
-go_same (step.ChangeKey given key) (answer.Replied reply) was names go name digest leaves is =
-    go name ∙ is
-go_same (step.ChangeKey given key) (answer.Round result) was names go name digest leaves is =
-    go name ∙ is
-go_same (step.ChangeKey given key) (answer.Added result) was names go name digest leaves is =
-    go name ∙ is
-go_same (step.ChangeKey given key) (answer.Reopened result) was names go name digest leaves is =
-    go name ∙ is
-go_same (step.Request bytes moment) a was names go name digest leaves is = go name ∙ is
-go_same (step.Round messages) a was names go name digest leaves is = go name ∙ is
-go_same step.Reopen a was names go name digest leaves is = go name ∙ is
+go_same s a was names go name digest leaves is = go name ∙ is
 
 unopened : (refused : Refused) → refused.stands ≡ false → IsTrue refused.stands → ⊥
 unopened refused is stands = true≢false (sym stands ∙ is)

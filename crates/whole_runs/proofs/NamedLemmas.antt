@@ -32,6 +32,14 @@ no_place : (place : Option ℕ) → is_some place ≡ false → place ≡ None
 no_place None is = refl
 no_place (Some place) is = absurd (true≢false is)
 
+-- whether somebody has a name, as it was looked up
+pub name_looked_up :
+    (name : List ℕ) (shown tenants : List Named) (place : Option ℕ) (there known : Bool) →
+    there ≡ is_some place → place ≡ position (has_name name) shown → shown ≡ tenants →
+    there ≡ known → is_some (position (has_name name) tenants) ≡ known
+name_looked_up name shown tenants place there known is found same told =
+    sym (is ∙ ap is_some (found ∙ ap (position (has_name name)) same)) ∙ told
+
 -- nobody has a name that stands nowhere
 pub unnamed :
     (name : List ℕ) (tenants : List Named) → is_some (position (has_name name) tenants) ≡ false →

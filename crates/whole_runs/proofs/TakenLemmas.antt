@@ -1,18 +1,12 @@
 -- A digest that is told to be taken is a tenant's.
-use Rattle.std.proofs.Common.{◌≡◌, ◌≢◌, ℕ, Bool, None, List, [], Result, Err, subst}
+use Rattle.std.proofs.Common.{◌≡◌, ◌≢◌, ℕ, Bool, None, Result, List, [], subst}
 use Rattle.sqlite_disk.specs.declared.Disk as disk
 use Rattle.sqlite.specs.Effect.{Database}
 use Rattle.sqlite.specs.Files.{file_state}
 use Rattle.stored_ledgers.specs.Directory.{with_digest}
 use Rattle.stored_ledgers.specs.DueSets.{DueSets}
-use Rattle.stored_ledgers.specs.Joining.{HasJoined}
-use Rattle.stored_ledgers.specs.Keying.{HasKeyed}
-use Rattle.stored_ledgers.specs.declared.joining.AddTenant.{AddTenant}
-use Rattle.stored_ledgers.specs.declared.joining.AddTenant.TheVariants as add
-use Rattle.stored_ledgers.specs.declared.keying.ChangeKey.{ChangeKey}
-use Rattle.stored_ledgers.specs.declared.keying.ChangeKey.TheVariants as key
 use Rattle.store.specs.NameLaws.{held}
-use Rattle.store.specs.Stores.{IsUsable, IsUsableAt, IsLive, IsLiveAt, OfDatabases, OfDatabaseAt}
+use Rattle.store.specs.Stores.{AnswersUnless, IsUsable, IsUsableAt, IsLive, IsLiveAt, OfDatabases, OfDatabaseAt}
 use Rattle.store.specs.Stores.{tenants_of, tenants_at}
 use Rattle.store.specs.declared.place.Place.{Place}
 use Rattle.store.specs.declared.place.Place.TheVariants as at
@@ -31,30 +25,16 @@ module _ {D : Type 0} {g : disk.Ghosts D} where
   held_at digest P tells ready sets (at.Open conn) (at.Shut files) usable live of = absurd of
   held_at digest P tells ready sets (at.Shut files) place' usable live of = absurd of
 
-  -- where a tenant joins
-  pub taken_at_joining :
-      (name digest : List ℕ) (old new : Store D g) (result : Result (Unit {0}) AddTenant) →
-      IsUsable old → IsLive old →
-      OfDatabases (λ before after. HasJoined name digest before after result) old new →
-      result ≡ Err add.DigestTaken → tenants_of old digest ≢ None
-  taken_at_joining name digest old new result usable live told is =
-      held_at digest (λ before after. HasJoined name digest before after (Err add.DigestTaken))
-      (λ before after joined. joined.0.1) old.ready old.due old.place new.place usable live
-      (subst
-      (λ (r : Result (Unit {0}) AddTenant).
-      OfDatabases (λ before after. HasJoined name digest before after r) old new)
-      is told)
-
-  -- and where one gets another key
-  pub taken_at_keying :
-      (name digest : List ℕ) (old new : Store D g) (result : Result (Unit {0}) ChangeKey) →
-      IsUsable old → IsLive old →
-      OfDatabases (λ before after. HasKeyed name digest before after result) old new →
-      result ≡ Err key.DigestTaken → tenants_of old digest ≢ None
-  taken_at_keying name digest old new result usable live told is =
-      held_at digest (λ before after. HasKeyed name digest before after (Err key.DigestTaken))
-      (λ before after keyed. keyed.0.0) old.ready old.due old.place new.place usable live
-      (subst
-      (λ (r : Result (Unit {0}) ChangeKey).
-      OfDatabases (λ before after. HasKeyed name digest before after r) old new)
-      is told)
+  -- where it is told of a change of which tenants there are, or of their keys
+  pub told_taken :
+      {R F : Type 0} (digest : List ℕ) (Told : Database → Database → Result R F → Type 0)
+      (taken : Result R F) →
+      ((before after : Database) → Told before after taken → with_digest digest before.trees ≢ []) →
+      {fault : F} {old new : Store D g} {result : Result R F} → IsUsable old →
+      AnswersUnless fault old new result →
+      (IsLive new → OfDatabases (λ before after. Told before after result) old new) → IsLive new →
+      result ≡ taken → tenants_of old digest ≢ None
+  told_taken digest Told taken tells {fault} {old} {new} {result} usable answers told live is =
+      held_at digest (λ before after. Told before after taken) tells old.ready old.due old.place new.place
+      usable (answers.follows.lived live)
+      (subst (λ r. OfDatabases (λ before after. Told before after r) old new) is (told live))

@@ -117,12 +117,8 @@ const REFUSED: &[Turn] = &[
     (b"[]", 0, b"{\"clock\":\"2\",\"results\":[]}"),
 ];
 
-/// The body of the reply to the first tenant, or the name of the refusal.
-fn told(alloc: Global, book: &mut Book, body: &[u8], moment: u64) -> Result<Vec<u8>, AllocError> {
-    told_to(alloc, book, &FIRST, body, moment)
-}
-
-fn told_to(
+/// The body of the reply to a tenant, or the name of the refusal.
+fn told(
     alloc: Global,
     book: &mut Book,
     digest: &[u8; 32],
@@ -156,7 +152,7 @@ fn answers(
     turns: &[Turn],
 ) -> Result<(usize, usize), AllocError> {
     for (body, moment, want) in turns {
-        let told = told(alloc, book, body, *moment)?;
+        let told = told(alloc, book, &FIRST, body, *moment)?;
         assert_eq!(rt; told.as_slice(), *want);
     }
     Ok(counts(book))
@@ -174,16 +170,11 @@ fn answers_bodies(rt: HostRuntime) -> Result<(), Fail> {
         assert_eq!(rt; kept, want);
     }
     for turn in ON_THE_BASE {
-        let _kept = answers(&rt, alloc, &mut book_of_base(&rt, alloc)?, &[*turn])?;
+        let mut book = Book::new(alloc);
+        book.add(FIRST, base(&rt, alloc)?.into_tables())?;
+        let _kept = answers(&rt, alloc, &mut book, &[*turn])?;
     }
     Ok(())
-}
-
-// A book of one tenant, with the accounts of the base.
-fn book_of_base(rt: &impl Abort, alloc: Global) -> Result<Book, Fail> {
-    let mut book = Book::new(alloc);
-    book.add(FIRST, base(rt, alloc)?.into_tables())?;
-    Ok(book)
 }
 
 /// A body, and the beginning of what is told.
@@ -234,7 +225,7 @@ fn answers_at_the_limits(rt: HostRuntime) -> Result<(), Fail> {
     let mut book = two_tenants(rt.alloc())?;
     for (body, want) in &LIMITS {
         let body = text_of(rt.alloc(), body)?;
-        let told = told(rt.alloc(), &mut book, body.as_bytes(), 0)?;
+        let told = told(rt.alloc(), &mut book, &FIRST, body.as_bytes(), 0)?;
         assert!(rt; told.as_slice().starts_with(want.as_bytes()), "{want}");
     }
     Ok(())
@@ -243,7 +234,7 @@ fn answers_at_the_limits(rt: HostRuntime) -> Result<(), Fail> {
 #[test]
 fn refuses_an_unknown_key(rt: HostRuntime) -> Result<(), Fail> {
     let mut book = two_tenants(rt.alloc())?;
-    let told = told_to(rt.alloc(), &mut book, &[2; 32], b"[1", 0)?;
+    let told = told(rt.alloc(), &mut book, &[2; 32], b"[1", 0)?;
     assert_eq!(rt; told.as_slice(), b"unknown_key".as_slice());
     Ok(())
 }

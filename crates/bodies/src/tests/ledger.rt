@@ -1,8 +1,7 @@
 //! A ledger of one tenant over plain lists, and what it tells in the fewest words.
-use amount::Amount;
 use chain::{BatchReply, Tables, run_accounts, run_transfers};
 use plain::PlainTables;
-use records::{AccountEvent, AccountResult, Balances, EventResult, TransferEvent, TransferResult};
+use records::{AccountEvent, AccountResult, Balances, TransferEvent, TransferResult};
 use std::alloc::{AllocError, Global};
 use std::test::Fail;
 
@@ -42,7 +41,20 @@ impl Ledger {
     pub(super) fn balances(&mut self, id: u128) -> Result<String, Fail> {
         self.tables.begin();
         let found = self.tables.account(id)?.ok_or("there is no such account")?;
-        Ok(sums(self.alloc, &found.balances)?)
+        let Balances { debits, credits } = &found.balances;
+        let mut text = String::new(self.alloc);
+        for (name, sum) in [
+            ("debits_pending", debits.pending),
+            ("debits_posted", debits.posted),
+            ("credits_pending", credits.pending),
+            ("credits_posted", credits.posted),
+        ] {
+            let sum = sum.value();
+            if sum != 0 {
+                push(&mut text, &format!(in self.alloc; "{name} {sum}")?)?;
+            }
+        }
+        Ok(text)
     }
 
     /// The ids of the transfers, each with the amount that is stored of it.
@@ -96,40 +108,14 @@ fn told<R: Numbered>(alloc: Global, reply: &BatchReply<R>) -> Result<String, Fai
         BatchReply::ClockExhausted => Ok(format!(in alloc; "clock_exhausted")?),
         BatchReply::Done { clock, results } => {
             let mut text = String::new(alloc);
-            push_results(&mut text, alloc, results)?;
+            for event in results.iter() {
+                let (number, timestamp) = (event.result.number(), event.timestamp);
+                push(&mut text, &format!(in alloc; "{number}@{timestamp}")?)?;
+            }
             push(&mut text, &format!(in alloc; "clock {clock}")?)?;
             Ok(text)
         }
     }
-}
-
-fn push_results<R: Numbered>(
-    text: &mut String,
-    alloc: Global,
-    results: &[EventResult<R>],
-) -> Result<(), AllocError> {
-    for event in results {
-        let (number, timestamp) = (event.result.number(), event.timestamp);
-        push(text, &format!(in alloc; "{number}@{timestamp}")?)?;
-    }
-    Ok(())
-}
-
-fn sums(alloc: Global, balances: &Balances) -> Result<String, AllocError> {
-    let named = [
-        ("debits_pending", balances.debits.pending),
-        ("debits_posted", balances.debits.posted),
-        ("credits_pending", balances.credits.pending),
-        ("credits_posted", balances.credits.posted),
-    ];
-    let mut text = String::new(alloc);
-    for (name, sum) in named {
-        if sum != Amount::ZERO {
-            let sum = sum.value();
-            push(&mut text, &format!(in alloc; "{name} {sum}")?)?;
-        }
-    }
-    Ok(text)
 }
 
 // Adds a word behind a comma.

@@ -4,30 +4,22 @@ use super::bodies::{CHAINS_AND_POSTS, IN_TURN, counts};
 use crate::plain_reply::PlainReply;
 use crate::responding::respond_plain;
 use crate::sample_book::{FIRST, two_tenants};
-use std::alloc::Global;
-use std::process::Abort;
-
-fn survives(rt: &impl Abort, alloc: Global, body: &[u8], want: &[u8], transfers: usize) {
-    let Ok(mut book) = two_tenants(alloc) else {
-        return;
-    };
-    let mut reply = respond_plain(alloc, &mut book, &FIRST, body, 0);
-    if let PlainReply::Unavailable = reply {
-        assert_eq!(rt; counts(&mut book), (0, 0));
-        reply = respond_plain(alloc, &mut book, &FIRST, body, 0);
-    }
-    match reply {
-        PlainReply::Body(told) => assert_eq!(rt; told.as_slice(), want),
-        _ => panic!(rt; "it is answered"),
-    }
-    assert_eq!(rt; counts(&mut book), (transfers, 0));
-}
 
 #[test]
 fn survives_want_of_memory(rt: HostRuntime) {
     for (turns, transfers) in [(IN_TURN, 1), (CHAINS_AND_POSTS, 2)] {
-        if let Some((body, _, want)) = turns.first() {
-            survives(&rt, rt.alloc(), body, want, transfers);
+        let (Some((body, _, want)), Ok(mut book)) = (turns.first(), two_tenants(rt.alloc())) else {
+            continue;
+        };
+        let mut reply = respond_plain(rt.alloc(), &mut book, &FIRST, body, 0);
+        if let PlainReply::Unavailable = reply {
+            assert_eq!(rt; counts(&mut book), (0, 0));
+            reply = respond_plain(rt.alloc(), &mut book, &FIRST, body, 0);
         }
+        match reply {
+            PlainReply::Body(told) => assert_eq!(rt; told.as_slice(), *want),
+            _ => panic!(rt; "it is answered"),
+        }
+        assert_eq!(rt; counts(&mut book), (transfers, 0));
     }
 }

@@ -5,17 +5,17 @@ use std::cell::Cell;
 use std::io::{self, ErrorKind};
 use std::time::{Clock, Duration};
 
-// A clock that stands still, or cannot be read.
+// A clock that is set, also back, or cannot be read.
 #[derive(Drop)]
-struct Stopped(Option<Duration>);
+struct Set(Cell<Option<Duration>>);
 
-impl Clock for Stopped {
+impl Clock for Set {
     fn monotonic(&self) -> io::Result<Duration> {
         Err(ErrorKind::Unsupported.into())
     }
 
     fn since_1970(&self) -> io::Result<Duration> {
-        match self.0 {
+        match self.0.get() {
             Some(time) => Ok(time),
             None => Err(ErrorKind::Unsupported.into()),
         }
@@ -33,7 +33,7 @@ fn tells_nanoseconds(rt: HostRuntime) {
         (Some(Duration::from_secs(20_000_000_000)), u64::MAX),
         (None, 0),
     ] {
-        let clock = Stopped(time);
+        let clock = Set(Cell::new(time));
         assert_eq!(rt; SystemMoments::new(&clock).moment(), want);
     }
 }
@@ -43,23 +43,6 @@ fn tells_a_moment_of_this_century(rt: HostRuntime) {
     let moment = SystemMoments::new(&rt).moment();
     assert!(rt; moment > 1_000_000_000_000_000_000);
     assert!(rt; moment < 4_102_444_800_000_000_000);
-}
-
-// A clock that is set, also back, or cannot be read.
-#[derive(Drop)]
-struct Set(Cell<Option<u64>>);
-
-impl Clock for Set {
-    fn monotonic(&self) -> io::Result<Duration> {
-        Err(ErrorKind::Unsupported.into())
-    }
-
-    fn since_1970(&self) -> io::Result<Duration> {
-        match self.0.get() {
-            Some(nanoseconds) => Ok(Duration::from_nanos(nanoseconds)),
-            None => Err(ErrorKind::Unsupported.into()),
-        }
-    }
 }
 
 // Two who are given moments of one clock are each given none before what the other was given.
@@ -76,7 +59,7 @@ fn tells_no_moment_before_one_that_was_given(rt: HostRuntime) {
         (Some(1001), 1001),
         (Some(1000), 1001),
     ] {
-        set.0.set(time);
+        set.0.set(time.map(Duration::from_nanos));
         assert_eq!(rt; one.moment(), want);
         assert_eq!(rt; other.moment(), want);
     }

@@ -41,16 +41,7 @@ struct Asking<'a> {
     has_ended: bool,
 }
 
-impl<'a> Asking<'a> {
-    fn new(alloc: Global, orders: &'a [Order]) -> Asking<'a> {
-        Asking {
-            alloc,
-            orders,
-            told: String::new(alloc),
-            has_ended: false,
-        }
-    }
-
+impl Asking<'_> {
     fn note(&mut self, done: Result<Done, Fault>) -> Result<(), AllocError> {
         match done {
             Ok(Done::Changed) => self.told.push_str("done\n"),
@@ -147,6 +138,12 @@ fn ordered_of<D: Disk + Drop, F: Firms<D>>(
     }
     let most = if messages > 0 { messages } else { u64::MAX };
     let mut moments = Thousands(1000);
+    let asking = Asking {
+        alloc,
+        orders,
+        told: String::new(alloc),
+        has_ended: false,
+    };
     let (served, asking) = serve_store(
         alloc,
         &mut peers,
@@ -154,7 +151,7 @@ fn ordered_of<D: Disk + Drop, F: Firms<D>>(
         Some(store),
         &mut moments,
         &clock,
-        Asking::new(alloc, orders),
+        asking,
         most,
     );
     let heard = peers.heard()?;

@@ -3,17 +3,6 @@ use super::files::Step::{Posts, Refuses, SendsBack, Tells};
 use super::files::{Step, take_steps};
 use std::test::Fail;
 
-// A statement of these rows.
-macro_rules! statement_text {
-    ($($row:literal),*) => {
-        concat!(
-            "timestamp,transfer_id,side,kind,amount,",
-            "debits_pending,debits_posted,credits_pending,credits_posted\n"
-            $(, $row)*
-        )
-    };
-}
-
 // A wide statement of these rows.
 macro_rules! wide_text {
     ($($row:literal),*) => {
@@ -84,11 +73,6 @@ const EXTRACTS: [Step; 9] = [
         "no_account",
     ),
 ];
-
-#[test]
-fn writes_statements_of_periods(rt: HostRuntime) -> Result<(), Fail> {
-    take_steps(&rt, "extract.db", &EXTRACTS)
-}
 
 // Two entries on the first day, and one at the last nanosecond of the second.
 const DAYS: [Step; 9] = [
@@ -169,6 +153,7 @@ const DAYS: [Step; 9] = [
 ];
 
 #[test]
-fn writes_statements_of_days(rt: HostRuntime) -> Result<(), Fail> {
+fn writes_statements_of_periods(rt: HostRuntime) -> Result<(), Fail> {
+    take_steps(&rt, "extract.db", &EXTRACTS)?;
     take_steps(&rt, "days.db", &DAYS)
 }

@@ -27,17 +27,6 @@ macro_rules! tenant_key {
     };
 }
 
-// A statement of these rows.
-macro_rules! statement_text {
-    ($($row:literal),*) => {
-        concat!(
-            "timestamp,transfer_id,side,kind,amount,",
-            "debits_pending,debits_posted,credits_pending,credits_posted\n"
-            $(, $row)*
-        )
-    };
-}
-
 // Of a file that is absent, and that no command makes.
 const WORDS: [Step; 26] = [
     Tells("serve --port=1 --requests=1", 0, ""),
@@ -144,11 +133,6 @@ const ADDED: [Step; 6] = [
     Tells(tenant_add!("b", "01010101"), 0, "added b\n"),
 ];
 
-#[test]
-fn adds_tenants(rt: HostRuntime) -> Result<(), Fail> {
-    take_steps(&rt, "added.db", &ADDED)
-}
-
 const KEYED: [Step; 10] = [
     Makes(tenant_add!("a", "00000000"), "added a\n"),
     Tells(tenant_add!("b", "01010101"), 0, "added b\n"),
@@ -163,11 +147,6 @@ const KEYED: [Step; 10] = [
     Tells("check", 0, "ok\n"),
 ];
 
-#[test]
-fn changes_keys(rt: HostRuntime) -> Result<(), Fail> {
-    take_steps(&rt, "keyed.db", &KEYED)
-}
-
 const EMPTY: [Step; 7] = [
     Writes(b""),
     Refuses("check", 4, "not_a_ledger"),
@@ -178,11 +157,6 @@ const EMPTY: [Step; 7] = [
     Tells("check", 0, "ok\n"),
 ];
 
-#[test]
-fn makes_a_ledger_of_an_empty_file(rt: HostRuntime) -> Result<(), Fail> {
-    take_steps(&rt, "empty.db", &EMPTY)
-}
-
 // A database without tables, as a making that was cut short leaves one.
 const BLANK: [Step; 6] = [
     Changes("CREATE TABLE note (id INTEGER PRIMARY KEY) STRICT"),
@@ -192,11 +166,6 @@ const BLANK: [Step; 6] = [
     Tells("check", 0, "ok\n"),
     Refuses(tenant_add!("a", "01010101"), 1, "name_taken"),
 ];
-
-#[test]
-fn makes_a_ledger_of_a_database_without_tables(rt: HostRuntime) -> Result<(), Fail> {
-    take_steps(&rt, "blank.db", &BLANK)
-}
 
 const STATEMENTS: [Step; 6] = [
     Posts,
@@ -221,11 +190,6 @@ const STATEMENTS: [Step; 6] = [
     Refuses("statement --tenant=a --account=9", 1, "no_account"),
 ];
 
-#[test]
-fn writes_statements(rt: HostRuntime) -> Result<(), Fail> {
-    take_steps(&rt, "statement.db", &STATEMENTS)
-}
-
 // The tenant that cannot be told is added all the same, and the key changed.
 const FULL: [Step; 12] = [
     Posts,
@@ -241,11 +205,6 @@ const FULL: [Step; 12] = [
     Fills(tenant_key!("b", "03030303"), "changed b"),
     Refuses(tenant_add!("c", "03030303"), 1, "digest_taken"),
 ];
-
-#[test]
-fn tells_a_full_device(rt: HostRuntime) -> Result<(), Fail> {
-    take_steps(&rt, "full.db", &FULL)
-}
 
 const WRONG: [Step; 21] = [
     Posts,
@@ -275,11 +234,6 @@ const WRONG: [Step; 21] = [
     Refuses("migrate --to=3", 4, "not_a_ledger"),
 ];
 
-#[test]
-fn tells_what_is_wrong_with_a_file(rt: HostRuntime) -> Result<(), Fail> {
-    take_steps(&rt, "wrong.db", &WRONG)
-}
-
 const NOISE: [Step; 5] = [
     Writes(&[255; 100]),
     Refuses("check", 4, "unreadable"),
@@ -295,12 +249,6 @@ const NOTES: [Step; 5] = [
     Refuses("statement --tenant=a --account=1", 4, "not_a_ledger"),
     Refuses("migrate --to=3", 4, "not_a_ledger"),
 ];
-
-#[test]
-fn takes_no_files_of_others(rt: HostRuntime) -> Result<(), Fail> {
-    take_steps(&rt, "noise.db", &NOISE)?;
-    take_steps(&rt, "notes.db", &NOTES)
-}
 
 // Nothing is made at a name that is taken for no path, and the system would refuse nothing there.
 const NO_PATH: [Step; 2] = [
@@ -337,7 +285,20 @@ const OLDER: [Step; 10] = [
 ];
 
 #[test]
-fn migrates_files(rt: HostRuntime) -> Result<(), Fail> {
+fn makes_ledgers_and_writes_to_them(rt: HostRuntime) -> Result<(), Fail> {
+    take_steps(&rt, "added.db", &ADDED)?;
+    take_steps(&rt, "keyed.db", &KEYED)?;
+    take_steps(&rt, "empty.db", &EMPTY)?;
+    take_steps(&rt, "blank.db", &BLANK)?;
+    take_steps(&rt, "statement.db", &STATEMENTS)?;
+    take_steps(&rt, "full.db", &FULL)
+}
+
+#[test]
+fn tells_what_is_wrong_with_a_file(rt: HostRuntime) -> Result<(), Fail> {
+    take_steps(&rt, "wrong.db", &WRONG)?;
+    take_steps(&rt, "noise.db", &NOISE)?;
+    take_steps(&rt, "notes.db", &NOTES)?;
     take_steps(&rt, "older.db", &OLDER)
 }
 

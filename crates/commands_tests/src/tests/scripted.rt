@@ -96,16 +96,6 @@ impl<'a> Scripted<'a> {
             Err(_) => None,
         }
     }
-
-    fn is_open(&self, number: u64) -> bool {
-        let Ok(at) = usize::try_from(number) else {
-            return false;
-        };
-        match self.peers.get(at) {
-            Some(peer) => peer.is_open,
-            None => false,
-        }
-    }
 }
 
 impl Peers for Scripted<'_> {
@@ -119,12 +109,8 @@ impl Peers for Scripted<'_> {
         self.clock.pass(self.seconds);
         for _ in 0..count {
             let number = self.next;
-            self.next = if number.saturating_add(1) < count {
-                number.saturating_add(1)
-            } else {
-                0
-            };
-            if self.is_open(number) {
+            self.next = number.saturating_add(1) % count.max(1);
+            if let Some(Peer { is_open: true, .. }) = self.peer(number) {
                 return Told::Ready(number);
             }
         }

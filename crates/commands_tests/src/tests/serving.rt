@@ -144,26 +144,64 @@ fn serves_nobody_for_no_replies(rt: HostRuntime) -> Result<(), Fail> {
 // A store's log fails at some call, and its home refuses so many openings, where so many seconds
 // pass with each turn.
 #[derive(Clone, Copy)]
-struct Trial<'a> {
+struct Trial {
     is_once: bool,
     refusals: u64,
     seconds: u64,
     messages: (u64, u64),
-    /// What the clients are told where the first message meets the fault.
-    want: &'a str,
+    /// What the clients are told where the first message meets the fault, part by part.
+    want: &'static [&'static str],
     /// What the home is told.
-    notices: &'a [Notice],
+    notices: &'static [Notice],
 }
 
-impl Trial<'_> {
-    fn fails(self, calls: u64) -> Fails {
-        if self.is_once {
-            Fails::Once(calls)
-        } else {
-            Fails::FromThen(calls)
-        }
-    }
-}
+const TRIALS: [Trial; 4] = [
+    // The disk is well again at once: what comes next is answered, of the same client too.
+    Trial {
+        is_once: true,
+        refusals: 2,
+        seconds: 0,
+        messages: (2, 1),
+        want: &[UNAVAILABLE, replies!("" "3000", "|" "2000")],
+        notices: &[],
+    },
+    // A store is opened anew.
+    Trial {
+        is_once: false,
+        refusals: 0,
+        seconds: 0,
+        messages: (2, 1),
+        want: &[UNAVAILABLE, replies!("" "3000", "|" "2000")],
+        notices: &[],
+    },
+    // It is tried again behind one second and two more, while both clients keep their connections.
+    // Its end is told as its beginning was.
+    Trial {
+        is_once: false,
+        refusals: 2,
+        seconds: 1,
+        messages: (3, 3),
+        want: &[
+            UNAVAILABLE,
+            UNAVAILABLE,
+            replies!("" "5000"),
+            "|",
+            UNAVAILABLE,
+            UNAVAILABLE,
+            replies!("" "6000"),
+        ],
+        notices: &[Refused(Fault::Unreadable), Answers],
+    },
+    // The clock stands still behind an attempt that is refused.
+    Trial {
+        is_once: false,
+        refusals: 1,
+        seconds: 0,
+        messages: (2, 1),
+        want: &[UNAVAILABLE, UNAVAILABLE, "|", UNAVAILABLE],
+        notices: &[Refused(Fault::Unreadable)],
+    },
+];
 
 // Whether the first message meets a fault at some call, and each time all is as it is to be.
 fn holds_with<D: Disk + Drop, F: Firms<D>>(
@@ -171,11 +209,20 @@ fn holds_with<D: Disk + Drop, F: Firms<D>>(
     firms: &F,
     trial: Trial,
 ) -> Result<bool, AllocError> {
+    let mut want = String::new(alloc);
+    for part in trial.want {
+        want.push_str(part)?;
+    }
     let mut has_failed = false;
     for calls in 0..48 {
         let clock = Hand::new();
         let home = Refusing::new(firms, trial.refusals, Notes::new(alloc, &clock));
-        let Some(store) = firms.store(trial.fails(calls)) else {
+        let fails = if trial.is_once {
+            Fails::Once(calls)
+        } else {
+            Fails::FromThen(calls)
+        };
+        let Some(store) = firms.store(fails) else {
             continue;
         };
         let told = exchange_over(alloc, &home, store, &clock, trial.seconds, trial.messages)?;
@@ -183,7 +230,7 @@ fn holds_with<D: Disk + Drop, F: Firms<D>>(
             return Ok(false);
         };
         if behind.starts_with(UNAVAILABLE.as_bytes()) {
-            if behind != trial.want.as_bytes() || !home.notes.are(trial.notices) {
+            if behind != want.as_bytes() || !home.notes.are(trial.notices) {
                 return Ok(false);
             }
             has_failed = true;
@@ -197,71 +244,11 @@ fn holds(alloc: Global, trial: Trial) -> Result<bool, AllocError> {
     holds_with::<TestDisk, InMemory>(alloc, &InMemory(alloc), trial)
 }
 
-// The disk is well again at once: what comes next is answered, of the same client too.
 #[test]
-fn opens_a_store_again_over_its_files(rt: HostRuntime) -> Result<(), Fail> {
-    let want = format!(in rt.alloc(); "{UNAVAILABLE}{}", replies!("" "3000", "|" "2000"))?;
-    let trial = Trial {
-        is_once: true,
-        refusals: 2,
-        seconds: 0,
-        messages: (2, 1),
-        want: &want,
-        notices: &[],
-    };
-    assert!(rt; holds(rt.alloc(), trial)?);
-    Ok(())
-}
-
-#[test]
-fn opens_a_store_anew(rt: HostRuntime) -> Result<(), Fail> {
-    let want = format!(in rt.alloc(); "{UNAVAILABLE}{}", replies!("" "3000", "|" "2000"))?;
-    let trial = Trial {
-        is_once: false,
-        refusals: 0,
-        seconds: 0,
-        messages: (2, 1),
-        want: &want,
-        notices: &[],
-    };
-    assert!(rt; holds(rt.alloc(), trial)?);
-    Ok(())
-}
-
-// It is tried again behind one second and two more, while both clients keep their connections. Its
-// end is told as its beginning was.
-#[test]
-fn serves_kept_clients_again(rt: HostRuntime) -> Result<(), Fail> {
-    let want = format!(in rt.alloc();
-        "{UNAVAILABLE}{UNAVAILABLE}{}|{UNAVAILABLE}{UNAVAILABLE}{}",
-        replies!("" "5000"),
-        replies!("" "6000")
-    )?;
-    let trial = Trial {
-        is_once: false,
-        refusals: 2,
-        seconds: 1,
-        messages: (3, 3),
-        want: &want,
-        notices: &[Refused(Fault::Unreadable), Answers],
-    };
-    assert!(rt; holds(rt.alloc(), trial)?);
-    Ok(())
-}
-
-// The clock stands still behind an attempt that is refused.
-#[test]
-fn answers_that_it_is_unavailable(rt: HostRuntime) -> Result<(), Fail> {
-    let want = format!(in rt.alloc(); "{UNAVAILABLE}{UNAVAILABLE}|{UNAVAILABLE}")?;
-    let trial = Trial {
-        is_once: false,
-        refusals: 1,
-        seconds: 0,
-        messages: (2, 1),
-        want: &want,
-        notices: &[Refused(Fault::Unreadable)],
-    };
-    assert!(rt; holds(rt.alloc(), trial)?);
+fn serves_on_behind_a_fault(rt: HostRuntime) -> Result<(), Fail> {
+    for (place, trial) in TRIALS.into_iter().enumerate() {
+        assert!(rt; holds(rt.alloc(), trial)?, "trial {place}");
+    }
     Ok(())
 }
 

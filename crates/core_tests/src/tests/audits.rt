@@ -1,13 +1,12 @@
 //! Ledgers undamaged and damaged, worked and generated, beside a plain audit that searches and sums
 //! anew.
 
-use crate::tests::asserting::same;
+use crate::tests::asserting::{displays, same};
 use crate::tests::cells::column;
 use audit::{AuditFault, Damage, DamageKind, check};
-use rows::TenantOfDigest;
+use rows::{AllRows, TenantOfDigest};
 use std::alloc::{AllocError, Global};
 use std::process::Abort;
-use std::test::Fail;
 
 mod damaged;
 mod dice;
@@ -18,12 +17,16 @@ mod plain_tables;
 mod random;
 mod worked_rows;
 
-use damaged::damaged_ledger;
-use worked_rows::{Sample, expired, file, posted_in_part, tenant};
+use damaged::{AT_ONCE, DAMAGES, FIRST_OF, damaged};
+use worked_rows::{Sample, expired, posted_in_part, tenant};
 
 // The number of the kind, the first byte of the digest and the place; none where the rows pass.
 fn told(alloc: Global, version: u32, tenants: Vec<TenantOfDigest>) -> Option<(u8, u8, usize)> {
-    let rows = file(alloc, version, tenants);
+    let rows = AllRows {
+        version,
+        directory: Vec::new(alloc),
+        tenants,
+    };
     match check(alloc, &rows) {
         Err(AuditFault::Damaged(damage)) => {
             Some((damage.kind.number(), damage.digest[0], damage.place))
@@ -75,20 +78,19 @@ fn undamaged(rt: HostRuntime) -> Result<(), AllocError> {
 }
 
 // A damage is told alike in each version that has its rows.
-fn is_told(rt: &impl Abort, alloc: Global, case: u8) -> Result<(), Fail> {
-    let (sample, first, wrong) = damaged_ledger(case).ok_or("no such case")?;
-    for version in first..4 {
-        let answer = found(alloc, version, &sample)?;
-        let told = (case, version, answer);
-        same(rt, "the damage", told, (case, version, Some(wrong)));
-    }
-    Ok(())
-}
-
 #[test]
-fn each_damage(rt: HostRuntime) -> Result<(), Fail> {
-    for case in 0..21 {
-        is_told(&rt, rt.alloc(), case)?;
+fn each_damage(rt: HostRuntime) -> Result<(), AllocError> {
+    for (case, (cells, first, wrong)) in DAMAGES.iter().enumerate() {
+        let sample = damaged(cells);
+        for version in *first..4 {
+            let told = (case, version, found(rt.alloc(), version, &sample)?);
+            same(&rt, "the damage", told, (case, version, Some(*wrong)));
+        }
+    }
+    for (count, wrong) in FIRST_OF {
+        let sample = damaged(AT_ONCE.get(..count).unwrap_or(&[]));
+        let told = (count, found(rt.alloc(), 3, &sample)?);
+        same(&rt, "the first damage", told, (count, Some(wrong)));
     }
     Ok(())
 }
@@ -124,7 +126,7 @@ fn clocks(rt: HostRuntime) -> Result<(), AllocError> {
 
 // Where the clock is behind the entries, the rows are those at the clock that the entries reach.
 #[test]
-fn a_clock_behind_the_entries(rt: HostRuntime) -> Result<(), Fail> {
+fn a_clock_behind_the_entries(rt: HostRuntime) -> Result<(), AllocError> {
     let mut sample = expired();
     sample.clock = Some(4);
     for (state, wrong) in [(3, (7, 0)), (0, (5, 0))] {
@@ -140,7 +142,7 @@ fn a_clock_behind_the_entries(rt: HostRuntime) -> Result<(), Fail> {
 }
 
 #[test]
-fn failed_ids(rt: HostRuntime) -> Result<(), Fail> {
+fn failed_ids(rt: HostRuntime) -> Result<(), AllocError> {
     for (failed, wrong) in [
         ([Some(99), Some(102), None], None),
         ([Some(101), None, None], Some((8, 0))),
@@ -156,33 +158,25 @@ fn failed_ids(rt: HostRuntime) -> Result<(), Fail> {
     Ok(())
 }
 
-fn with_wrong_balance() -> Sample {
-    let mut sample = posted_in_part();
-    sample.balances[1].dd = column(41);
-    sample
-}
-
-fn with_wrong_history() -> Sample {
-    let mut sample = posted_in_part();
-    sample.history[0].dp = column(1);
-    sample
-}
-
 #[test]
 fn the_first_of_all_tenants(rt: HostRuntime) -> Result<(), AllocError> {
     let alloc = rt.alloc();
+    let mut wrong_balance = posted_in_part();
+    wrong_balance.balances[1].dd = column(41);
+    let mut wrong_history = posted_in_part();
+    wrong_history.history[0].dp = column(1);
     let mut tenants = Vec::new(alloc);
     tenants.push(tenant(alloc, 3, 5, &posted_in_part())?)?;
-    tenants.push(tenant(alloc, 3, 3, &with_wrong_history())?)?;
-    tenants.push(tenant(alloc, 3, 9, &with_wrong_balance())?)?;
-    tenants.push(tenant(alloc, 3, 7, &with_wrong_balance())?)?;
+    tenants.push(tenant(alloc, 3, 3, &wrong_history)?)?;
+    tenants.push(tenant(alloc, 3, 9, &wrong_balance)?)?;
+    tenants.push(tenant(alloc, 3, 7, &wrong_balance)?)?;
     let first = told(alloc, 3, tenants);
     same(&rt, "of four tenants", first, Some((4, 7, 1)));
     Ok(())
 }
 
 #[test]
-fn prints_why_rows_do_not_pass(rt: HostRuntime) -> Result<(), Fail> {
+fn prints_why_rows_do_not_pass(rt: HostRuntime) -> Result<(), AllocError> {
     let damage = Damage {
         kind: DamageKind::Clock,
         digest: [7; 32],
@@ -192,8 +186,7 @@ fn prints_why_rows_do_not_pass(rt: HostRuntime) -> Result<(), Fail> {
         (AuditFault::Damaged(damage), "damaged"),
         (AuditFault::Memory, "out of memory"),
     ] {
-        let told = fault.to_string(rt.alloc())?;
-        same(&rt, "the words", told.as_str(), text);
+        displays(&rt, rt.alloc(), &fault, text)?;
     }
     Ok(())
 }

@@ -2,7 +2,7 @@
 
 use crate::tests::asserting::{displays, same};
 use amount::Amount;
-use records::{Account, AccountFlags, Balances, PendingState, Side, Sums, Transfer, TransferFlags};
+use records::{Account, Balances, PendingState, Side, Sums, Transfer, TransferFlags};
 use rows::{BalanceRow, HistoryRow, StatusRow};
 use running::{Entry, ReplayFault, Running, replay};
 use std::alloc::{AllocError, Global};
@@ -15,13 +15,10 @@ const A_SECOND_LATER: u64 = 1_000_000_005;
 fn account(id: u128, timestamp: u64) -> Account {
     Account {
         id,
-        user_data_128: 0,
-        user_data_64: 0,
-        user_data_32: 0,
         ledger: 7,
         code: 10,
-        flags: AccountFlags(0),
         timestamp,
+        ..Account::default()
     }
 }
 
@@ -32,16 +29,13 @@ fn pending(timeout: u32) -> Transfer {
         debit_account_id: 1,
         credit_account_id: 2,
         amount: Amount::new(100),
-        pending_id: 0,
-        user_data_128: 0,
-        user_data_64: 0,
-        user_data_32: 0,
         timeout,
         ledger: 7,
         code: 1,
         flags: TransferFlags(2),
         timestamp: 5,
         at: 5,
+        ..Transfer::default()
     }
 }
 
@@ -76,61 +70,45 @@ fn posted_in_part(amount: u128) -> [Entry; 4] {
     ]
 }
 
-// The rows that are derived from entries.
-#[derive(Drop)]
-struct Rows {
-    balances: Vec<BalanceRow>,
-    statuses: Vec<StatusRow>,
-    history: Vec<HistoryRow>,
-}
-
-fn rows_of(alloc: Global, running: &Running, history: Vec<HistoryRow>) -> Result<Rows, AllocError> {
-    Ok(Rows {
-        balances: running.balance_rows(alloc)?,
-        statuses: running.status_rows(alloc)?,
-        history,
-    })
-}
-
-// The rows right after the last entry.
-fn replayed(alloc: Global, entries: &[Entry]) -> Result<Rows, ReplayFault> {
-    let mut history = Vec::new(alloc);
-    let running = replay(alloc, entries, &mut history)?;
-    Ok(rows_of(alloc, &running, history)?)
-}
-
-// The rows once a second is over.
-fn settled(rt: &impl Abort, alloc: Global, entries: &[Entry]) -> Result<Rows, ReplayFault> {
+// The rows that are derived from entries: right after the last one, or a second later.
+fn replayed(
+    rt: &impl Abort,
+    alloc: Global,
+    entries: &[Entry],
+    is_later: bool,
+) -> Result<(Vec<BalanceRow>, Vec<StatusRow>, Vec<HistoryRow>), ReplayFault> {
     let mut history = Vec::new(alloc);
     let mut running = replay(alloc, entries, &mut history)?;
-    assert!(rt; running.clock() <= A_SECOND_LATER);
-    running.settle_to(A_SECOND_LATER)?;
-    Ok(rows_of(alloc, &running, history)?)
+    if is_later {
+        assert!(rt; running.clock() <= A_SECOND_LATER);
+        running.settle_to(A_SECOND_LATER)?;
+    }
+    Ok((
+        running.balance_rows(alloc)?,
+        running.status_rows(alloc)?,
+        history,
+    ))
 }
 
 // 40 of 100 are posted: nothing is pending any more, and the history has both entries twice.
 #[test]
 fn a_part_is_posted(rt: HostRuntime) -> Result<(), ReplayFault> {
-    let rows = replayed(rt.alloc(), posted_in_part(40).as_slice())?;
-    let balances = [
+    let entries = posted_in_part(40);
+    let (balances, statuses, history) = replayed(&rt, rt.alloc(), &entries, false)?;
+    let want = [
         balance(1, on(Side::Debit, 0, 40)),
         balance(2, on(Side::Credit, 0, 40)),
     ];
-    same(
-        &rt,
-        "balances",
-        rows.balances.as_slice(),
-        balances.as_slice(),
-    );
-    let posted = [status(PendingState::Posted, None)];
-    same(&rt, "statuses", rows.statuses.as_slice(), posted.as_slice());
-    let history = [
+    same(&rt, "balances", balances.as_slice(), want.as_slice());
+    let want = [status(PendingState::Posted, None)];
+    same(&rt, "statuses", statuses.as_slice(), want.as_slice());
+    let want = [
         told(1, 5, on(Side::Debit, 100, 0)),
         told(2, 5, on(Side::Credit, 100, 0)),
         told(1, 6, on(Side::Debit, 0, 40)),
         told(2, 6, on(Side::Credit, 0, 40)),
     ];
-    same(&rt, "history", rows.history.as_slice(), history.as_slice());
+    same(&rt, "history", history.as_slice(), want.as_slice());
     Ok(())
 }
 
@@ -164,22 +142,12 @@ fn a_pending_transfer_expires(rt: HostRuntime) -> Result<(), ReplayFault> {
         Entry::Opened(account(2, 2)),
         Entry::Moved(pending(1)),
     ];
-    let rows = settled(&rt, rt.alloc(), &entries)?;
-    let balances = [balance(1, Balances::ZERO), balance(2, Balances::ZERO)];
-    same(
-        &rt,
-        "balances",
-        rows.balances.as_slice(),
-        balances.as_slice(),
-    );
-    let expired = [status(PendingState::Expired, Some(1_000_000_005))];
-    same(
-        &rt,
-        "statuses",
-        rows.statuses.as_slice(),
-        expired.as_slice(),
-    );
-    same(&rt, "history", rows.history.len(), 2);
+    let (balances, statuses, history) = replayed(&rt, rt.alloc(), &entries, true)?;
+    let want = [balance(1, Balances::ZERO), balance(2, Balances::ZERO)];
+    same(&rt, "balances", balances.as_slice(), want.as_slice());
+    let want = [status(PendingState::Expired, Some(A_SECOND_LATER))];
+    same(&rt, "statuses", statuses.as_slice(), want.as_slice());
+    same(&rt, "history", history.len(), 2);
     Ok(())
 }
 

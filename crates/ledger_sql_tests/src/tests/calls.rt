@@ -15,7 +15,10 @@ pub fn answer<S: Unclaimed>(conn: &mut Connection<S>, call: &Call) -> Done {
     match call {
         Call::Take(stage) => take(conn, stage),
         Call::Make(tables) => make(conn, tables),
-        Call::AddVersion => add_version(conn),
+        Call::AddVersion => {
+            claims_nothing(conn);
+            adding::add_version(conn)
+        }
         Call::Add(row) => add(conn, row),
         Call::AddHistory(time, debited, credited, amount) => {
             add_history(conn, *time, (*debited, *credited), *amount)
@@ -52,11 +55,6 @@ fn make<S: Unclaimed>(conn: &mut Connection<S>, tables: &Made) -> Done {
         Made::TransferTable => creating::make_transfer(conn),
         Made::BalanceTables => creating::make_balance_tables(conn),
     }
-}
-
-fn add_version<S: Unclaimed>(conn: &mut Connection<S>) -> Done {
-    claims_nothing(conn);
-    adding::add_version(conn)
 }
 
 fn add<S: Unclaimed>(conn: &mut Connection<S>, row: &Row) -> Done {

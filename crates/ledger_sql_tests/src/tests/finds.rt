@@ -5,7 +5,6 @@ use super::sample::{account, balance, pending, post, status};
 use super::unclaimed::{Unclaimed, claims_nothing};
 use ledger_sql::finding;
 use records::Unavailable;
-use rows::DirectoryRow;
 use sqlite::Connection;
 
 /// What is found by a row's key.
@@ -25,16 +24,6 @@ fn told<T: PartialEq + Drop>(
         Some(found) if found == row => Ok(Found::ThisRow),
         Some(_) => Ok(Found::AnotherRow),
     }
-}
-
-/// A row with nothing but its key.
-fn told_there(found: Result<bool, Unavailable>) -> Result<Found, Unavailable> {
-    let found = if found? {
-        Found::ThisRow
-    } else {
-        Found::Nothing
-    };
-    Ok(found)
 }
 
 pub fn find<S: Unclaimed>(conn: &mut Connection<S>, row: &Row) -> Result<Found, Unavailable> {
@@ -59,7 +48,15 @@ pub fn find<S: Unclaimed>(conn: &mut Connection<S>, row: &Row) -> Result<Found, 
             finding::find_status(conn, 1, *transfer),
             status(*transfer, *state, *timestamp),
         ),
-        Row::Failed(tenant, id) => told_there(finding::has_failed(conn, *tenant, *id)),
+        Row::Failed(tenant, id) => {
+            // A row with nothing but its key.
+            let is_there = finding::has_failed(conn, *tenant, *id)?;
+            Ok(if is_there {
+                Found::ThisRow
+            } else {
+                Found::Nothing
+            })
+        }
     }
 }
 
@@ -69,7 +66,10 @@ pub fn number_of<S: Unclaimed>(
     name: &str,
 ) -> Result<Option<i64>, Unavailable> {
     claims_nothing(conn);
-    Ok(number_in(finding::find_tenant_by_name(conn, name)?))
+    match finding::find_tenant_by_name(conn, name)? {
+        Some(row) => Ok(Some(row.number)),
+        None => Ok(None),
+    }
 }
 
 /// Whether the row of the tenant with this number has this name; where there is none, no name is
@@ -84,8 +84,4 @@ pub fn is_named<S: Unclaimed>(
         Some(row) => Ok(row.number == number && row.name.as_str() == name),
         None => Ok(false),
     }
-}
-
-fn number_in(found: Option<DirectoryRow>) -> Option<i64> {
-    Some(found?.number)
 }

@@ -18,25 +18,13 @@ pub fn add_many<S: Unclaimed>(
     for row in 0..rows {
         let id = u32::from(row) + 1000;
         let name = format!(in alloc; "T{id}")?;
-        add_tenant(conn, id, name.as_str())?;
+        let mut digest = [0; 32];
+        digest[..4].copy_from_slice(&id.to_be_bytes());
+        claims_nothing(conn);
+        adding::add_tenant(conn, i64::from(id), name.as_str(), &digest)?;
         add_rows(conn, id)?;
     }
     Ok(true)
-}
-
-fn add_tenant<S: Unclaimed>(
-    conn: &mut Connection<S>,
-    id: u32,
-    name: &str,
-) -> Result<(), Unavailable> {
-    claims_nothing(conn);
-    adding::add_tenant(conn, i64::from(id), name, &digest_with(id))
-}
-
-fn digest_with(id: u32) -> [u8; 32] {
-    let mut digest = [0; 32];
-    digest[..4].copy_from_slice(&id.to_be_bytes());
-    digest
 }
 
 /// The rows of a pending transfer, of an account and of a failed id, all with this id.

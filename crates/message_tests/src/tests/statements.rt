@@ -1,12 +1,12 @@
 //! Statements as CSV, row by row and over a period, in other forms, and where the writer fails.
 
 use amount::Amount;
+use failing_streams::Narrow;
 use records::{Balances, Kind, RowSink, Side, SinkFault, StatementRow, Streamed, Sums, Transfer};
 use statement::{
     Extract, Form, Layout, Period, StatementFault, StatementWriter, extract_text, write_statement,
 };
 use std::alloc::Global;
-use std::io::{self, ErrorKind, Write};
 
 const HEADER: &str = "timestamp,transfer_id,side,kind,amount,debits_pending,debits_posted,\
     credits_pending,credits_posted\n";
@@ -248,38 +248,13 @@ fn reads_forms(rt: HostRuntime) {
     }
 }
 
-// Takes 200 bytes at most, 7 a call, and fails behind them. It needs no memory.
-#[derive(Drop)]
-struct Narrow {
-    bytes: [u8; 200],
-    len: usize,
-    room: usize,
-}
-
-impl Write for Narrow {
-    fn write(&mut self, buf: &[u8]) -> io::Result<usize> {
-        let free = self.room.min(self.bytes.len()).saturating_sub(self.len);
-        let count = buf.len().min(7).min(free);
-        if count == 0 {
-            return Err(ErrorKind::BrokenPipe.into());
-        }
-        for (place, byte) in self.bytes.iter_mut().skip(self.len).zip(&buf[..count]) {
-            *place = *byte;
-        }
-        self.len = self.len.saturating_add(count);
-        Ok(count)
-    }
-
-    fn flush(&mut self) -> io::Result<()> {
-        Ok(())
-    }
-}
-
-fn with_room(room: usize) -> Streamed<Narrow> {
+// Takes so many bytes, 7 a call, and fails behind them.
+fn with_room(alloc: Global, room: usize) -> Streamed<Narrow> {
     Streamed::new(Narrow {
-        bytes: [0; 200],
-        len: 0,
+        taken: Vec::new(alloc),
+        piece: 7,
         room,
+        fails: true,
     })
 }
 
@@ -287,55 +262,41 @@ fn with_room(room: usize) -> Streamed<Narrow> {
 fn leaves_a_beginning_where_the_writer_fails(rt: HostRuntime) {
     let text = PENDING_AND_POST.as_bytes();
     for room in 0..text.len() {
-        let mut out = with_room(room);
+        let mut out = with_room(rt.alloc(), room);
         let written = write_statement(rt.alloc(), &mut out, &pending_and_post());
         assert_eq!(rt; written, Err(StatementFault::Write), "with room for {room}");
-        let Narrow { bytes, len, .. } = out.into_inner();
-        assert!(rt;
-            bytes.iter().take(len).eq(text.iter().take(room)),
-            "with room for {room}"
-        );
+        let Narrow { taken, .. } = out.into_inner();
+        assert_eq!(rt; taken.as_slice(), &text[..room], "with room for {room}");
     }
-    let mut out = with_room(text.len());
-    assert_eq!(rt;
-        write_statement(rt.alloc(), &mut out, &pending_and_post()),
-        Ok(())
-    );
+    let mut out = with_room(rt.alloc(), text.len());
+    let written = write_statement(rt.alloc(), &mut out, &pending_and_post());
+    assert_eq!(rt; written, Ok(()));
 }
 
 #[test]
 fn refuses_a_row_where_the_writer_fails(rt: HostRuntime) {
-    let mut writer = StatementWriter::new(rt.alloc(), with_room(140));
-    assert_eq!(rt;
-        hand(&mut writer, &pending_and_post()),
-        Err(SinkFault::Write)
-    );
-    let Narrow { bytes, len, .. } = writer.into_inner().into_inner();
-    let text = PENDING_AND_POST.as_bytes();
-    assert!(rt; bytes.iter().take(len).eq(text.iter().take(140)));
-    let writer = StatementWriter::new(rt.alloc(), with_room(96));
+    let mut writer = StatementWriter::new(rt.alloc(), with_room(rt.alloc(), 140));
+    let handed = hand(&mut writer, &pending_and_post());
+    assert_eq!(rt; handed, Err(SinkFault::Write));
+    let Narrow { taken, .. } = writer.into_inner().into_inner();
+    assert!(rt; taken.len() == 140 && PENDING_AND_POST.as_bytes().starts_with(&taken));
+    let writer = StatementWriter::new(rt.alloc(), with_room(rt.alloc(), 96));
     let (_out, ended) = writer.finish();
     assert_eq!(rt; ended, Err(StatementFault::Write));
 }
 
-// Passes with any allocation refused.
+// Passes with any allocation refused: the writer needs no memory.
 #[test]
 fn survives_want_of_memory(rt: HostRuntime) {
-    let mut out = with_room(200);
+    let text = PENDING_AND_POST.as_bytes();
+    let mut bytes = [0u8; 200];
+    let mut out = Streamed::new(bytes.as_mut_slice());
     let written = write_statement(rt.alloc(), &mut out, &pending_and_post());
-    let Narrow { bytes, len, .. } = out.into_inner();
-    assert!(rt;
-        bytes
-            .iter()
-            .take(len)
-            .eq(PENDING_AND_POST.as_bytes().iter().take(len))
-    );
-    let wanted = match written {
-        Ok(()) => PENDING_AND_POST.len(),
-        Err(fault) => {
-            assert_eq!(rt; fault, StatementFault::Memory);
-            len
-        }
-    };
-    assert_eq!(rt; len, wanted);
+    let left = out.into_inner().len();
+    let len = bytes.len().saturating_sub(left);
+    assert!(rt; bytes.iter().take(len).eq(text.iter().take(len)));
+    match written {
+        Ok(()) => assert_eq!(rt; len, text.len()),
+        Err(fault) => assert_eq!(rt; fault, StatementFault::Memory),
+    }
 }

@@ -5,11 +5,11 @@ use super::disks::{Faulty, NEVER, TestDisk, TestStore, new_store, shut};
 use super::messages::{asked, wanted};
 use super::scripts::runs;
 use chain::Ledgers;
+use failing_streams::Narrow;
 use records::Streamed;
 use service::{Moments, ServeFault, serve};
 use sqlite_disk::Disk;
 use std::alloc::{AllocError, Global};
-use std::io::{self, ErrorKind, Write};
 use std::process::Abort;
 use std::test::Fail;
 
@@ -24,29 +24,6 @@ impl Moments for Thousands {
         let moment = self.0;
         self.0 = moment.saturating_add(1000);
         moment
-    }
-}
-
-/// Takes some bytes, and then fails.
-#[derive(Drop)]
-struct Narrow {
-    taken: Vec<u8>,
-    room: usize,
-}
-
-impl Write for Narrow {
-    fn write(&mut self, buf: &[u8]) -> io::Result<usize> {
-        let count = buf.len().min(self.room);
-        if count == 0 {
-            return Err(ErrorKind::BrokenPipe.into());
-        }
-        self.taken.extend_from_slice(&buf[..count])?;
-        self.room -= count;
-        Ok(count)
-    }
-
-    fn flush(&mut self) -> io::Result<()> {
-        Ok(())
     }
 }
 
@@ -141,9 +118,13 @@ fn served<L: Ledgers>(
     limits: (usize, u64),
 ) -> (Vec<u8>, Result<u64, ServeFault>) {
     let (room, most) = limits;
-    let taken = Vec::new(alloc);
     let mut reader = Streamed::new(input);
-    let mut writer = Streamed::new(Narrow { taken, room });
+    let mut writer = Streamed::new(Narrow {
+        taken: Vec::new(alloc),
+        piece: usize::MAX,
+        room,
+        fails: true,
+    });
     let ended = serve(
         alloc,
         ledgers,
@@ -180,19 +161,6 @@ fn output_of(alloc: Global, connection: &Connection) -> Result<Vec<u8>, AllocErr
     Ok(output)
 }
 
-/// Looks at how a connection ended, and at what was written into it.
-fn is_served(
-    rt: &impl Abort,
-    alloc: Global,
-    connection: &Connection,
-    (written, ended): (&[u8], Result<u64, ServeFault>),
-) -> Result<(), Fail> {
-    assert_eq!(rt; ended, connection.ended);
-    let output = output_of(alloc, connection)?;
-    assert_eq!(rt; written, output.as_slice());
-    Ok(())
-}
-
 /// Serves a connection, and looks at what is written.
 fn serves<L: Ledgers>(
     rt: &impl Abort,
@@ -203,7 +171,10 @@ fn serves<L: Ledgers>(
     let input = input_of(alloc, connection)?;
     let limits = (connection.room, connection.most);
     let (written, ended) = served(alloc, ledgers, &input, limits);
-    is_served(rt, alloc, connection, (&written, ended))
+    assert_eq!(rt; ended, connection.ended);
+    let output = output_of(alloc, connection)?;
+    assert_eq!(rt; written.as_slice(), output.as_slice());
+    Ok(())
 }
 
 /// Serves all connections, between the two scripts.
@@ -212,11 +183,11 @@ fn serves_all<D: Disk + Drop>(
     alloc: Global,
     store: &mut TestStore<D>,
 ) -> Result<(), Fail> {
-    runs(rt, alloc, store, BASES)?;
+    runs(rt, alloc, store, BASES, false)?;
     for connection in &CONNECTIONS {
         serves(rt, alloc, store, connection)?;
     }
-    runs(rt, alloc, store, DONE_UNTOLD)
+    runs(rt, alloc, store, DONE_UNTOLD, false)
 }
 
 /// The same, over disks of their own.

@@ -49,17 +49,10 @@ pub struct Spelled {
     unavailable: String,
 }
 
-/// A run of one step.
-fn only(alloc: Global, text: &str) -> Result<Vec<Step>, Unmade> {
-    let mut steps = Vec::new(alloc);
-    steps.push(step(alloc, text)?)?;
-    Ok(steps)
-}
-
 impl Deed {
     pub fn spelled(&self, alloc: Global) -> Result<Spelled, Unmade> {
         Ok(Spelled {
-            steps: only(alloc, self.step)?,
+            steps: vec![in alloc; step(alloc, self.step)?]?,
             done: wanted(alloc, self.done)?,
             done_before: wanted(alloc, self.done_before)?,
             unavailable: wanted(alloc, self.unavailable)?,

@@ -59,12 +59,17 @@ pub fn made<D: Disk + Drop>(
     Ok(InUse { backend })
 }
 
-/// A new store, whose disks fail behind so many calls.
-pub fn new_store<D: Faulty>(alloc: Global, log: u64, database: u64) -> Result<TestStore<D>, Fail> {
-    match made(alloc, empty(alloc, log, database)) {
+/// The same, or a failure.
+pub fn made_in<D: Disk + Drop>(alloc: Global, files: Files<D>) -> Result<TestStore<D>, Fail> {
+    match made(alloc, files) {
         Ok(store) => Ok(store),
         Err((fault, _files)) => Err(fault.into()),
     }
+}
+
+/// A new store, whose disks fail behind so many calls.
+pub fn new_store<D: Faulty>(alloc: Global, log: u64, database: u64) -> Result<TestStore<D>, Fail> {
+    made_in(alloc, empty(alloc, log, database))
 }
 
 /// What a crash leaves of files, on disks that fail no more.
@@ -98,15 +103,10 @@ pub fn shut<D: Disk + Drop>(store: TestStore<D>) {
     let _files = store.into_backend().close();
 }
 
-/// All rows.
-pub fn all_rows<D: Disk + Drop>(store: &mut TestStore<D>) -> Result<AllRows, Unavailable> {
-    store.backend.all_rows()
-}
-
 /// All rows, once there is memory to read them.
 pub fn rows_in<D: Disk + Drop>(store: &mut TestStore<D>) -> Result<AllRows, Fail> {
-    match all_rows(store) {
-        Err(Unavailable::Memory) => Ok(all_rows(store)?),
+    match store.backend.all_rows() {
+        Err(Unavailable::Memory) => Ok(store.backend.all_rows()?),
         rows => Ok(rows?),
     }
 }

@@ -47,7 +47,7 @@ fn around<D: Disk + Drop>(
     store: &mut TestStore<D>,
     deed: &Spelled,
 ) -> Result<(AllRows, AllRows), Fail> {
-    runs(rt, alloc, store, TWO)?;
+    runs(rt, alloc, store, TWO, false)?;
     let before = rows_in(store)?;
     let told = deed.told(alloc, store);
     let after = rows_in(store)?;
@@ -67,14 +67,6 @@ fn both<D: Faulty, R: Abort>(
     rows
 }
 
-/// Looks whether a deed has changed rows, and none of the second tenant.
-fn leaves_the_second(rt: &impl Abort, before: &AllRows, after: &AllRows) -> Result<(), Fail> {
-    assert!(rt; before != after);
-    let second = before.tenants.get(1).ok_or("no second tenant")?;
-    assert!(rt; after.tenants.get(1) == Some(second));
-    Ok(())
-}
-
 /// Adds the two tenants to a store, and tells what a deed is told then.
 fn told_among_two<D: Disk + Drop>(
     rt: &impl Abort,
@@ -82,7 +74,7 @@ fn told_among_two<D: Disk + Drop>(
     store: &mut TestStore<D>,
     deed: &Spelled,
 ) -> Result<Told, Fail> {
-    runs(rt, alloc, store, TWO)?;
+    runs(rt, alloc, store, TWO, false)?;
     Ok(deed.told(alloc, store))
 }
 
@@ -129,7 +121,7 @@ fn became<D: Faulty, R: Abort>(
     })
 }
 
-/// A deed has each outcome in turn where a file fails behind so many calls.
+/// A deed leaves the second tenant's rows, and has each outcome in turn where a file fails behind so many calls.
 fn has_each_outcome<D: Faulty, R: Abort>(
     rt: &R,
     alloc: Global,
@@ -139,7 +131,9 @@ fn has_each_outcome<D: Faulty, R: Abort>(
 ) -> Result<(), Fail> {
     let deed = deed.spelled(alloc)?;
     let (before, after) = both::<D, _>(rt, alloc, &deed)?;
-    leaves_the_second(rt, &before, &after)?;
+    assert!(rt; before != after);
+    let second = before.tenants.get(1).ok_or("no second tenant")?;
+    assert!(rt; after.tenants.get(1) == Some(second));
     for (calls, want) in calls.into_iter().zip(OUTCOMES) {
         let got = became::<D, _>(rt, alloc, (failing, calls), &deed, (&before, &after))?;
         assert_eq!(rt; got, Some(want), "behind {calls} calls");
@@ -147,33 +141,22 @@ fn has_each_outcome<D: Faulty, R: Abort>(
     Ok(())
 }
 
-/// The same, of disks in memory.
-fn has_each_outcome_in_memory(
-    rt: &impl Abort,
-    alloc: Global,
-    deed: &Deed,
-    failing: Failing,
-    calls: [u64; 3],
-) -> Result<(), Fail> {
-    has_each_outcome::<TestDisk, _>(rt, alloc, deed, failing, calls)
-}
-
 #[test]
 fn a_chain_over_a_log_that_fails(rt: HostRuntime) -> Result<(), Fail> {
-    has_each_outcome_in_memory(&rt, rt.alloc(), &CHAIN, Failing::Log, [91, 108, 109])
+    has_each_outcome::<TestDisk, _>(&rt, rt.alloc(), &CHAIN, Failing::Log, [91, 108, 109])
 }
 
 #[test]
 fn a_chain_over_a_database_file_that_fails(rt: HostRuntime) -> Result<(), Fail> {
-    has_each_outcome_in_memory(&rt, rt.alloc(), &CHAIN, Failing::Database, [42, 53, 54])
+    has_each_outcome::<TestDisk, _>(&rt, rt.alloc(), &CHAIN, Failing::Database, [42, 53, 54])
 }
 
 #[test]
 fn a_tenant_over_a_log_that_fails(rt: HostRuntime) -> Result<(), Fail> {
-    has_each_outcome_in_memory(&rt, rt.alloc(), &JOINING, Failing::Log, [91, 108, 109])
+    has_each_outcome::<TestDisk, _>(&rt, rt.alloc(), &JOINING, Failing::Log, [91, 108, 109])
 }
 
 #[test]
 fn a_tenant_over_a_database_file_that_fails(rt: HostRuntime) -> Result<(), Fail> {
-    has_each_outcome_in_memory(&rt, rt.alloc(), &JOINING, Failing::Database, [42, 49, 50])
+    has_each_outcome::<TestDisk, _>(&rt, rt.alloc(), &JOINING, Failing::Database, [42, 49, 50])
 }

@@ -3,7 +3,7 @@
 
 use super::deeds::{CHAIN, Spelled, Told};
 use super::disks::{
-    Faulty, NEVER, TestDisk, TestStore, after_a_crash, all_rows, crashed, empty, made, opened,
+    Faulty, NEVER, TestDisk, TestStore, after_a_crash, crashed, empty, made, made_in, opened,
     reopen, rows_in, shut,
 };
 use super::scripts::{answers, steps};
@@ -24,18 +24,10 @@ const ONE: &str = "tenant 0 = added
 fn created<D: Faulty>(alloc: Global) -> Result<TestStore<D>, Fail> {
     match made(alloc, empty(alloc, NEVER, NEVER)) {
         Ok(store) => Ok(store),
-        Err((OpenFault::Unavailable(Unavailable::Memory), files)) => created_again(alloc, files),
+        Err((OpenFault::Unavailable(Unavailable::Memory), files)) => made_in(alloc, files),
         Err((OpenFault::Unavailable(Unavailable::Disk), files)) => {
             created_or_found(alloc, crashed(files))
         }
-        Err((fault, _files)) => Err(fault.into()),
-    }
-}
-
-/// A store that is made in the files that were given back.
-fn created_again<D: Disk + Drop>(alloc: Global, files: Files<D>) -> Result<TestStore<D>, Fail> {
-    match made(alloc, files) {
-        Ok(store) => Ok(store),
         Err((fault, _files)) => Err(fault.into()),
     }
 }
@@ -71,17 +63,15 @@ fn want_of_memory_in_create(rt: HostRuntime) -> Result<(), Fail> {
     Ok(())
 }
 
-/// Whether these are the rows of a tenant with its accounts.
-fn is_base(rows: &AllRows) -> bool {
-    matches!(rows.tenants.as_slice(), [tenant] if tenant.rows.accounts.len() == 4)
-}
-
 /// Adds a tenant with its accounts, if there is memory for that, and reads its rows.
 fn added<D: Disk + Drop>(alloc: Global, store: &mut TestStore<D>) -> Option<AllRows> {
     let steps = steps(alloc, ONE).ok()?;
     let _answers = answers(alloc, store, &steps).ok()?;
-    let rows = all_rows(store).ok()?;
-    if is_base(&rows) { Some(rows) } else { None }
+    let rows = store.backend.all_rows().ok()?;
+    match rows.tenants.as_slice() {
+        [tenant] if tenant.rows.accounts.len() == 4 => Some(rows),
+        _ => None,
+    }
 }
 
 /// A store to which a tenant is added, and all rows, if there is memory for that.
@@ -152,22 +142,6 @@ fn want_of_memory_in_reopen(rt: HostRuntime) -> Result<(), Fail> {
     Ok(())
 }
 
-/// A store on the same files where its disk has failed, or else itself.
-fn served_again<D: Crash + Drop>(alloc: Global, store: TestStore<D>) -> Result<TestStore<D>, Fail> {
-    if store.backend.is_ready() {
-        return Ok(store);
-    }
-    after_a_crash(alloc, store)
-}
-
-/// A chain as it is sent and answered, once there is memory for it.
-fn spelled_chain(alloc: Global) -> Result<Spelled, Fail> {
-    match CHAIN.spelled(alloc) {
-        Ok(chain) => Ok(chain),
-        Err(_) => Ok(CHAIN.spelled(alloc)?),
-    }
-}
-
 /// What is found behind a chain that was told to be unavailable.
 #[derive(Clone, Copy)]
 struct Found {
@@ -176,7 +150,8 @@ struct Found {
     again: Told,
 }
 
-/// Looks at a store behind a chain, and sends the chain again.
+/// Looks at a store behind a chain, opened again on its files where its disk has failed, and sends
+/// the chain again.
 fn found_after<D: Crash + Drop>(
     alloc: Global,
     store: TestStore<D>,
@@ -184,7 +159,11 @@ fn found_after<D: Crash + Drop>(
     before: &AllRows,
 ) -> Result<Found, Fail> {
     let has_failed = !store.backend.is_ready();
-    let mut store = served_again(alloc, store)?;
+    let mut store = if has_failed {
+        after_a_crash(alloc, store)?
+    } else {
+        store
+    };
     let rows = rows_in(&mut store);
     let again = chain.told(alloc, &mut store);
     shut(store);
@@ -213,7 +192,10 @@ fn sent<D: Faulty, R: Abort>(
 
 #[test]
 fn want_of_memory_in_run_all(rt: HostRuntime) -> Result<(), Fail> {
-    let chain = spelled_chain(rt.alloc())?;
+    let chain = match CHAIN.spelled(rt.alloc()) {
+        Ok(chain) => chain,
+        Err(_) => CHAIN.spelled(rt.alloc())?,
+    };
     if let Some(found) = sent::<TestDisk, _>(&rt, rt.alloc(), &chain)? {
         let want = if found.is_as_before {
             Told::Done

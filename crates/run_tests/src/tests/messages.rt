@@ -151,17 +151,6 @@ fn results(alloc: Global, text: &str) -> Result<String, AllocError> {
     format!(in alloc; "{{\"clock\":\"{clock}\",\"results\":[{list}]}}")
 }
 
-/// The lines of a statement, each a word.
-fn statement(alloc: Global, text: &str) -> Result<String, AllocError> {
-    let mut body = String::new(alloc);
-    body.push_str(HEADER)?;
-    for line in text.split_whitespace() {
-        body.push_str(line)?;
-        body.push_str("\n")?;
-    }
-    Ok(body)
-}
-
 /// A whole reply.
 fn reply(alloc: Global, status: &str, kind: &str, body: &str) -> Result<String, AllocError> {
     let length = body.len();
@@ -175,8 +164,13 @@ fn json(alloc: Global, body: &str) -> Result<String, AllocError> {
     reply(alloc, "200 OK", "application/json", body)
 }
 
-/// A reply with a statement of a few rows, which are one chunk (RFC 9112, 7.1).
-fn in_chunks(alloc: Global, csv: &str) -> Result<String, AllocError> {
+/// A reply with a statement of a few lines, each a word, which are one chunk (RFC 9112, 7.1).
+fn statement(alloc: Global, lines: &str) -> Result<String, AllocError> {
+    let mut csv = HEADER.to_string(alloc)?;
+    for line in lines.split_whitespace() {
+        csv.push_str(line)?;
+        csv.push_str("\n")?;
+    }
     let length = csv.len();
     format!(in alloc;
         "HTTP/1.1 200 OK\r\ncontent-type: text/csv\r\ntransfer-encoding: chunked\r\n\r\n\
@@ -200,7 +194,7 @@ pub fn wanted(alloc: Global, text: &str) -> Result<String, AllocError> {
         return json(alloc, &results(alloc, text)?);
     }
     if let Some(lines) = text.strip_prefix("csv") {
-        return in_chunks(alloc, &statement(alloc, lines)?);
+        return statement(alloc, lines);
     }
     match text.split_once(' ') {
         Some((name, status)) => refusal(alloc, name, status),
@@ -223,11 +217,6 @@ fn message(alloc: Global, line: &str, number: &str, body: &str) -> Result<String
     )?)
 }
 
-/// A message as it is written, with bars for the ends of lines.
-fn written(alloc: Global, text: &str) -> Result<String, AllocError> {
-    text.replace(alloc, "|", "\r\n")
-}
-
 /// 1,001 accounts.
 fn many(alloc: Global) -> Result<String, AllocError> {
     let account = r#"{"id":"9","ledger":7,"code":10}"#;
@@ -241,11 +230,11 @@ fn many(alloc: Global) -> Result<String, AllocError> {
 }
 
 /// A message of the tenant of this number: transfers, accounts, or a method, a path and a body; or
-/// a message as it is written.
+/// a message as it is written, with bars for the ends of lines.
 pub fn asked(alloc: Global, number: &str, text: &str) -> Result<String, Unmade> {
     let (word, rest) = text.split_once(' ').unwrap_or((text, ""));
     match word {
-        "raw" => Ok(written(alloc, rest)?),
+        "raw" => Ok(rest.replace(alloc, "|", "\r\n")?),
         "base" => message(alloc, "POST /accounts", number, BASE),
         "many" => message(alloc, "POST /accounts", number, &many(alloc)?),
         "transfers" => message(alloc, "POST /transfers", number, &transfers(alloc, rest)?),

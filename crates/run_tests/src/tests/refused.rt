@@ -36,14 +36,14 @@ key 1 of 5 = no_tenant
 
 /// The opening of a store that is refused for want of memory, between two parts of a run.
 fn goes_on(rt: &impl Abort, alloc: Global, store: &mut TestStore<TestDisk>) -> Result<(), Fail> {
-    runs(rt, alloc, store, BEFORE)?;
+    runs(rt, alloc, store, BEFORE, false)?;
     let fault = OpenFault::Unavailable(Unavailable::Memory);
     let stands = true;
     assert_eq!(rt;
         store.backend.reopen(&NoMemory),
         Err(Refused { fault, stands })
     );
-    runs(rt, alloc, store, BEHIND)
+    runs(rt, alloc, store, BEHIND, false)
 }
 
 #[test]

@@ -38,7 +38,7 @@ impl Rows {
 }
 
 /// These steps, in which each row of requests is one round.
-pub fn in_rounds(alloc: Global, steps: Vec<Step>) -> Result<Vec<Step>, AllocError> {
+pub fn rounds_of(alloc: Global, steps: Vec<Step>) -> Result<Vec<Step>, AllocError> {
     let mut rows = Rows {
         alloc,
         steps: Vec::new(alloc),

@@ -3,12 +3,11 @@
 use super::disks::{Faulty, NEVER, TestDisk, TestStore, new_store, shut};
 use super::examples::{EXAMPLES, TENANTS};
 use super::requests::{CLOCKS, READS, REFUSALS};
-use super::scripts::{answers, runs, runs_in_rounds};
+use super::scripts::{answers, runs};
 use std::alloc::{AllocError, Global};
 use std::process::Abort;
 use std::test::Fail;
 use whole_runs::{NamedBook, Reopening};
-use wire::NoMemory;
 
 /// A new tenant's first request, a name that is taken, a reopening, and an account that is missing.
 const BEGINS: &str = r#"tenant 0 = added
@@ -77,23 +76,29 @@ fn tenants(alloc: Global) -> Result<String, AllocError> {
     Ok(script)
 }
 
-/// All examples, over the same ledgers, which are opened again behind them.
-fn examples<L: Reopening>(rt: &impl Abort, alloc: Global, ledgers: &mut L) -> Result<(), Fail> {
-    runs(rt, alloc, ledgers, &tenants(alloc)?)?;
-    runs(rt, alloc, ledgers, EXAMPLES)?;
-    runs(rt, alloc, ledgers, "open = opened")
-}
-
-/// Runs a script over lists of its own.
-fn run_over_lists(rt: &impl Abort, alloc: Global, script: &str) -> Result<(), Fail> {
-    runs(rt, alloc, &mut NamedBook::new(alloc), script)
+/// All examples, over the same ledgers, which are opened again behind them. In rounds, each firm's
+/// requests are told what they are told one by one.
+fn examples<L: Reopening>(
+    rt: &impl Abort,
+    alloc: Global,
+    ledgers: &mut L,
+    in_rounds: bool,
+) -> Result<(), Fail> {
+    runs(rt, alloc, ledgers, &tenants(alloc)?, in_rounds)?;
+    runs(rt, alloc, ledgers, EXAMPLES, in_rounds)?;
+    runs(rt, alloc, ledgers, "open = opened", false)
 }
 
 /// Runs each script over disks of its own.
-fn runs_on<D: Faulty, R: Abort>(rt: &R, alloc: Global, scripts: &[&str]) -> Result<(), Fail> {
+fn runs_on<D: Faulty, R: Abort>(
+    rt: &R,
+    alloc: Global,
+    scripts: &[&str],
+    in_rounds: bool,
+) -> Result<(), Fail> {
     for script in scripts {
         let mut store: TestStore<D> = new_store(alloc, NEVER, NEVER)?;
-        let ended = runs(rt, alloc, &mut store, script);
+        let ended = runs(rt, alloc, &mut store, script, in_rounds);
         shut(store);
         ended?;
     }
@@ -101,82 +106,39 @@ fn runs_on<D: Faulty, R: Abort>(rt: &R, alloc: Global, scripts: &[&str]) -> Resu
 }
 
 /// All examples, over disks of their own.
-fn examples_on<D: Faulty, R: Abort>(rt: &R, alloc: Global) -> Result<(), Fail> {
+fn examples_on<D: Faulty, R: Abort>(rt: &R, alloc: Global, in_rounds: bool) -> Result<(), Fail> {
     let mut store: TestStore<D> = new_store(alloc, NEVER, NEVER)?;
-    let ended = examples(rt, alloc, &mut store);
+    let ended = examples(rt, alloc, &mut store, in_rounds);
     shut(store);
     ended
 }
 
-/// How many answers there are to no steps.
-fn count_of_none(alloc: Global) -> Result<usize, NoMemory> {
-    Ok(answers(alloc, &mut NamedBook::new(alloc), &[])?.len())
-}
-
 #[test]
 fn runs_over_lists(rt: HostRuntime) -> Result<(), Fail> {
-    for script in &RUNS {
-        run_over_lists(&rt, rt.alloc(), script)?;
+    let alloc = rt.alloc();
+    for in_rounds in [false, true] {
+        for script in &RUNS {
+            runs(&rt, alloc, &mut NamedBook::new(alloc), script, in_rounds)?;
+        }
+        examples(&rt, alloc, &mut NamedBook::new(alloc), in_rounds)?;
     }
-    examples(&rt, rt.alloc(), &mut NamedBook::new(rt.alloc()))?;
-    assert_eq!(rt; count_of_none(rt.alloc())?, 0);
+    let none = answers(alloc, &mut NamedBook::new(alloc), &[])?;
+    assert_eq!(rt; none.len(), 0);
     Ok(())
 }
 
 #[test]
 fn runs_over_disks(rt: HostRuntime) -> Result<(), Fail> {
-    runs_on::<TestDisk, _>(&rt, rt.alloc(), &RUNS)
+    runs_on::<TestDisk, _>(&rt, rt.alloc(), &RUNS, false)
 }
 
 #[test]
 fn examples_over_disks(rt: HostRuntime) -> Result<(), Fail> {
-    examples_on::<TestDisk, _>(&rt, rt.alloc())
-}
-
-/// The examples in rounds: each firm's requests are told what they are told one by one.
-fn examples_in_rounds<L: Reopening>(
-    rt: &impl Abort,
-    alloc: Global,
-    ledgers: &mut L,
-) -> Result<(), Fail> {
-    runs_in_rounds(rt, alloc, ledgers, &tenants(alloc)?)?;
-    runs_in_rounds(rt, alloc, ledgers, EXAMPLES)?;
-    runs(rt, alloc, ledgers, "open = opened")
-}
-
-#[test]
-fn runs_in_rounds_over_lists(rt: HostRuntime) -> Result<(), Fail> {
-    for script in &RUNS {
-        runs_in_rounds(&rt, rt.alloc(), &mut NamedBook::new(rt.alloc()), script)?;
-    }
-    examples_in_rounds(&rt, rt.alloc(), &mut NamedBook::new(rt.alloc()))
-}
-
-/// Runs each script in rounds over disks of its own.
-fn runs_in_rounds_on<D: Faulty, R: Abort>(
-    rt: &R,
-    alloc: Global,
-    scripts: &[&str],
-) -> Result<(), Fail> {
-    for script in scripts {
-        let mut store: TestStore<D> = new_store(alloc, NEVER, NEVER)?;
-        let ended = runs_in_rounds(rt, alloc, &mut store, script);
-        shut(store);
-        ended?;
-    }
-    Ok(())
-}
-
-/// The examples in rounds, over disks of their own.
-fn examples_in_rounds_on<D: Faulty, R: Abort>(rt: &R, alloc: Global) -> Result<(), Fail> {
-    let mut store: TestStore<D> = new_store(alloc, NEVER, NEVER)?;
-    let ended = examples_in_rounds(rt, alloc, &mut store);
-    shut(store);
-    ended
+    examples_on::<TestDisk, _>(&rt, rt.alloc(), false)
 }
 
 #[test]
 fn runs_in_rounds_over_disks(rt: HostRuntime) -> Result<(), Fail> {
-    runs_in_rounds_on::<TestDisk, _>(&rt, rt.alloc(), &RUNS)?;
-    examples_in_rounds_on::<TestDisk, _>(&rt, rt.alloc())
+    runs_on::<TestDisk, _>(&rt, rt.alloc(), &RUNS, true)?;
+    examples_on::<TestDisk, _>(&rt, rt.alloc(), true)
 }

@@ -11,7 +11,7 @@
 //! A line that begins with two spaces goes on with the one before it.
 
 use super::messages::{Unmade, step, wanted};
-use super::rounds::{in_rounds, one_by_one};
+use super::rounds::{one_by_one, rounds_of};
 use std::alloc::{AllocError, Global};
 use std::process::Abort;
 use std::test::Fail;
@@ -35,11 +35,6 @@ pub fn told(answer: &Answer) -> &[u8] {
     }
 }
 
-/// A script, with one line for each step.
-fn joined(alloc: Global, script: &str) -> Result<String, AllocError> {
-    script.replace(alloc, "\n  ", "")
-}
-
 /// Runs steps, and forgets what a run promises.
 pub fn answers<L: Reopening>(
     alloc: Global,
@@ -60,47 +55,36 @@ pub fn steps(alloc: Global, text: &str) -> Result<Vec<Step>, Unmade> {
     Ok(steps)
 }
 
-/// Whether an answer is what is wanted.
-fn is_told(alloc: Global, want: &str, answer: Option<&Answer>) -> Result<bool, AllocError> {
-    let want = wanted(alloc, want)?;
-    let told = answer.map_or(b"nothing".as_slice(), told);
-    Ok(told == want.as_bytes())
-}
-
 /// Looks at what is told.
 fn are_told(rt: &impl Abort, alloc: Global, text: &str, answers: &[Answer]) -> Result<(), Fail> {
     let mut left = answers.iter();
     for line in text.lines() {
         if let Some((_, want)) = line.split_once(" = ") {
-            assert!(rt; is_told(alloc, want, left.next())?, "{line}");
+            let got = left.next().map_or(b"nothing".as_slice(), told);
+            assert!(rt; got == wanted(alloc, want)?.as_bytes(), "{line}");
         }
     }
     assert!(rt; left.next().is_none());
     Ok(())
 }
 
-/// Runs a script, and looks at what is told.
+/// Runs a script, and looks at what is told. In rounds, requests that stand side by side are one
+/// round: each is told the same.
 pub fn runs<L: Reopening>(
     rt: &impl Abort,
     alloc: Global,
     ledgers: &mut L,
     script: &str,
+    in_rounds: bool,
 ) -> Result<(), Fail> {
-    let text = joined(alloc, script)?;
+    // One line for each step.
+    let text = script.replace(alloc, "\n  ", "")?;
     let steps = steps(alloc, &text)?;
-    let answers = answers(alloc, ledgers, &steps)?;
-    are_told(rt, alloc, &text, &answers)
-}
-
-/// Runs a script in which requests that stand side by side are one round: each is told the same.
-pub fn runs_in_rounds<L: Reopening>(
-    rt: &impl Abort,
-    alloc: Global,
-    ledgers: &mut L,
-    script: &str,
-) -> Result<(), Fail> {
-    let text = joined(alloc, script)?;
-    let steps = in_rounds(alloc, steps(alloc, &text)?)?;
-    let answers = one_by_one(alloc, answers(alloc, ledgers, &steps)?)?;
+    let answers = if in_rounds {
+        let rows = rounds_of(alloc, steps)?;
+        one_by_one(alloc, answers(alloc, ledgers, &rows)?)?
+    } else {
+        answers(alloc, ledgers, &steps)?
+    };
     are_told(rt, alloc, &text, &answers)
 }

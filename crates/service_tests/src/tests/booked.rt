@@ -79,15 +79,6 @@ pub(crate) fn firms_with(alloc: Global, keys: &[&str], count: u64) -> Result<Fir
     Ok(firms)
 }
 
-// The line of a transfer behind so many others.
-fn put_line(alloc: Global, lines: &mut Vec<u8>, number: u64) -> Result<(), AllocError> {
-    let timestamp = number.saturating_add(1003);
-    let id = number.saturating_add(10);
-    let posted = number.saturating_add(1).saturating_mul(7);
-    let line = format!(in alloc; "{timestamp},{id},debit,single,7,0,{posted},0,0\n")?;
-    lines.extend_from_slice(line.as_bytes())
-}
-
 /// The chunk that has the lines of the transfers from one place to another. The first line of all
 /// stands in the first chunk.
 pub(crate) fn chunk(alloc: Global, from: u64, to: u64) -> Result<Vec<u8>, AllocError> {
@@ -96,7 +87,11 @@ pub(crate) fn chunk(alloc: Global, from: u64, to: u64) -> Result<Vec<u8>, AllocE
         lines.extend_from_slice(HEADER.as_bytes())?;
     }
     for number in from..to {
-        put_line(alloc, &mut lines, number)?;
+        let timestamp = number.saturating_add(1003);
+        let id = number.saturating_add(10);
+        let posted = number.saturating_add(1).saturating_mul(7);
+        let line = format!(in alloc; "{timestamp},{id},debit,single,7,0,{posted},0,0\n")?;
+        lines.extend_from_slice(line.as_bytes())?;
     }
     let length = lines.len();
     let mut chunk = format!(in alloc; "{length:x}\r\n")?.into_bytes();

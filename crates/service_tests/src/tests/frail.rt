@@ -59,7 +59,8 @@ pub(crate) struct Frail {
     /// What becomes of the next round.
     fate: Option<Fate>,
     pub(crate) is_shut: bool,
-    rounds: u64,
+    /// How many rounds were begun.
+    pub(crate) rounds: u64,
 }
 
 impl Frail {
@@ -71,11 +72,6 @@ impl Frail {
             is_shut: false,
             rounds: 0,
         }
-    }
-
-    /// How many rounds were begun.
-    pub(crate) fn rounds(&self) -> u64 {
-        self.rounds
     }
 }
 

@@ -49,14 +49,18 @@ impl<'a> Talker<'a> {
     }
 }
 
-// Two clients send and hear in turns of so many bytes, until both have heard all.
-fn talk(
-    firms: &mut Firms,
-    one: &mut Talker,
-    other: &mut Talker,
-    piece: usize,
-    most: usize,
-) -> Result<(), AllocError> {
+const KEYS: [&str; 2] = [FIRST, SECOND];
+
+// What the first is written who is alone.
+fn heard_alone(alloc: Global) -> Result<Vec<u8>, Fail> {
+    Ok(Firms::with(alloc, &KEYS)?.serve_alone(OF_FIRST.as_bytes()))
+}
+
+// What two are written who send and hear in turns of so many bytes, until both have heard all.
+fn heard_in_turns(alloc: Global, piece: usize, most: usize) -> Result<(Vec<u8>, Vec<u8>), Fail> {
+    let mut firms = Firms::with(alloc, &KEYS)?;
+    let mut one = Talker::new(alloc, OF_FIRST.as_bytes());
+    let mut other = Talker::new(alloc, OF_SECOND.as_bytes());
     for _ in 0..4000 {
         one.send(piece)?;
         other.send(piece)?;
@@ -65,22 +69,6 @@ fn talk(
         one.hear(most)?;
         other.hear(most)?;
     }
-    Ok(())
-}
-
-const KEYS: [&str; 2] = [FIRST, SECOND];
-
-// What the first is written who is alone.
-fn heard_alone(alloc: Global) -> Result<Vec<u8>, Fail> {
-    Ok(Firms::with(alloc, &KEYS)?.serve_alone(OF_FIRST.as_bytes()))
-}
-
-// What two are written who send and hear in turns of so many bytes.
-fn heard_in_turns(alloc: Global, piece: usize, most: usize) -> Result<(Vec<u8>, Vec<u8>), Fail> {
-    let mut firms = Firms::with(alloc, &KEYS)?;
-    let mut one = Talker::new(alloc, OF_FIRST.as_bytes());
-    let mut other = Talker::new(alloc, OF_SECOND.as_bytes());
-    talk(&mut firms, &mut one, &mut other, piece, most)?;
     Ok((one.heard, other.heard))
 }
 
@@ -112,32 +100,20 @@ fn have_a_turn(
     Ok(is_heard && answers == [Some(Answered::Replied), Some(Answered::Replied), None])
 }
 
-// Whether each has its three messages answered, a turn each, and then the first is over.
-fn have_all_turns(
-    firms: &mut Firms,
-    one: &mut Talker,
-    other: &mut Talker,
-) -> Result<bool, AllocError> {
-    one.send(4096)?;
-    other.send(4096)?;
-    let mut are_answered = true;
-    for _ in 0..3 {
-        are_answered = have_a_turn(firms, one, other)? && are_answered;
-    }
-    let ends = [
-        firms.answer_client(&mut one.client),
-        firms.answer_client(&mut other.client),
-    ];
-    Ok(are_answered && ends == [Some(Answered::Over), None])
-}
-
 #[test]
 fn answers_one_message_of_each_client_a_turn(rt: HostRuntime) -> Result<(), Fail> {
     let to_first = heard_alone(rt.alloc())?;
     let mut firms = Firms::with(rt.alloc(), &KEYS)?;
     let mut one = Talker::new(rt.alloc(), OF_FIRST.as_bytes());
     let mut other = Talker::new(rt.alloc(), OF_SECOND.as_bytes());
-    assert!(rt; have_all_turns(&mut firms, &mut one, &mut other)?);
+    one.send(4096)?;
+    other.send(4096)?;
+    for _ in 0..3 {
+        assert!(rt; have_a_turn(&mut firms, &mut one, &mut other)?);
+    }
+    let over = firms.answer_client(&mut one.client);
+    assert_eq!(rt; over, Some(Answered::Over));
+    assert_eq!(rt; firms.answer_client(&mut other.client), None);
     assert!(rt; one.heard == to_first && other.heard.as_slice() == TO_SECOND.as_bytes());
     Ok(())
 }
@@ -152,31 +128,23 @@ fn answer_behind(
     Ok(firms.answer_client(&mut talker.client))
 }
 
-// What is answered before anything is sent, then, where a byte of the reply is not taken yet, and
-// behind each reply.
-fn answers_of_one(
-    firms: &mut Firms,
-    talker: &mut Talker,
-) -> Result<[Option<Answered>; 6], AllocError> {
-    let before = firms.answer_client(&mut talker.client);
-    talker.send(4096)?;
-    let first = firms.answer_client(&mut talker.client);
-    let size = talker.client.unsent().len();
-    Ok([
-        before,
-        first,
-        answer_behind(firms, talker, size - size.min(1))?,
-        answer_behind(firms, talker, 1)?,
-        answer_behind(firms, talker, 4096)?,
-        answer_behind(firms, talker, 4096)?,
-    ])
-}
-
 #[test]
 fn answers_nothing_before_the_reply_is_written(rt: HostRuntime) -> Result<(), Fail> {
     let mut firms = Firms::with(rt.alloc(), &[FIRST])?;
     let mut talker = Talker::new(rt.alloc(), OF_FIRST.as_bytes());
-    let answers = answers_of_one(&mut firms, &mut talker)?;
+    let before = firms.answer_client(&mut talker.client);
+    talker.send(4096)?;
+    let first = firms.answer_client(&mut talker.client);
+    // A byte of the reply is not taken yet, then it is, and then each whole reply.
+    let size = talker.client.unsent().len();
+    let answers = [
+        before,
+        first,
+        answer_behind(&mut firms, &mut talker, size - size.min(1))?,
+        answer_behind(&mut firms, &mut talker, 1)?,
+        answer_behind(&mut firms, &mut talker, 4096)?,
+        answer_behind(&mut firms, &mut talker, 4096)?,
+    ];
     let replied = Some(Answered::Replied);
     let (wanting, over) = (Some(Answered::Wanting), Some(Answered::Over));
     assert!(rt; answers == [wanting, replied, None, replied, replied, over]);
@@ -184,25 +152,21 @@ fn answers_nothing_before_the_reply_is_written(rt: HostRuntime) -> Result<(), Fa
     Ok(())
 }
 
-// Whether a client whose body is announced is told where no memory is for it.
-fn gives_up(alloc: Global, firms: &mut Firms) -> Result<bool, AllocError> {
-    let mut client = Client::new(alloc);
-    let is_new = !client.is_announced() && client.reserve_due(9)? == 9;
-    client.receive(ANNOUNCED.as_bytes())?;
-    let is_wanting = firms.answer_client(&mut client) == Some(Answered::Wanting);
-    let is_due = client.announced_length() == Some(132) && client.reserve_due(9)? == 5;
-    if client.may_answer() && client.is_announced() {
-        client.give_up();
-    }
-    let is_told = client.unsent() == UNAVAILABLE.as_bytes();
-    let is_over = !client.goes_on() && !client.may_answer();
-    Ok(is_new && is_wanting && is_due && is_told && is_over)
-}
-
+// A client whose body is announced is told where no memory is for it.
 #[test]
 fn gives_up_where_memory_is_wanting(rt: HostRuntime) -> Result<(), Fail> {
     let mut firms = Firms::with(rt.alloc(), &[FIRST])?;
-    assert!(rt; gives_up(rt.alloc(), &mut firms)?);
+    let mut client = Client::new(rt.alloc());
+    assert!(rt; !client.is_announced() && client.reserve_due(9)? == 9);
+    client.receive(ANNOUNCED.as_bytes())?;
+    let wanting = firms.answer_client(&mut client);
+    assert_eq!(rt; wanting, Some(Answered::Wanting));
+    assert!(rt; client.announced_length() == Some(132) && client.reserve_due(9)? == 5);
+    assert!(rt; client.may_answer());
+    assert!(rt; client.is_announced());
+    client.give_up();
+    assert!(rt; client.unsent() == UNAVAILABLE.as_bytes());
+    assert!(rt; !client.goes_on() && !client.may_answer());
     Ok(())
 }
 
@@ -226,49 +190,34 @@ fn hears_a_part(firms: &mut Firms, talker: &mut Talker) -> Result<bool, Fail> {
     let is_heard = talker.client.unsent().is_empty() && !talker.client.is_written();
     let waits = !talker.client.may_answer() && firms.answer_client(&mut talker.client) == None;
     let rest = talker.client.rest().ok_or("nothing is left")?;
-    let part = firms.part(&rest).map_err(|_| "no part")?;
+    let part = firms.part(&rest)?;
     talker.client.put_part(part);
     let waits_on = !talker.client.is_written() && !talker.client.may_answer();
     Ok(has_some && is_heard && waits && waits_on)
 }
 
-// Whether another client has a message answered.
-fn another_is_answered(alloc: Global, firms: &mut Firms) -> Result<bool, Fail> {
-    let more = transfers(alloc, 2000, 100)?;
-    let mut other = Talker::new(alloc, &more);
-    other.send(ALL)?;
-    Ok(hears_a_reply(firms, &mut other)?)
-}
-
-// Whether a client hears what it wants in so many parts, between which another one has its messages
-// answered.
-fn hears_all(
-    alloc: Global,
-    firms: &mut Firms,
-    talker: &mut Talker,
-    parts: u32,
-    want: &[u8],
-) -> Result<bool, Fail> {
-    talker.send(ALL)?;
-    let mut is_right = hears_a_reply(firms, talker)? && hears_a_reply(firms, talker)?;
-    is_right = is_right && firms.answer_client(&mut talker.client) == Some(Answered::Replied);
-    for _ in 1..parts {
-        let is_heard = hears_a_part(firms, talker)? && another_is_answered(alloc, firms)?;
-        is_right = is_right && is_heard;
-    }
-    let is_last = talker.client.rest() == None;
-    talker.hear(ALL)?;
-    let is_whole = want.starts_with(&talker.heard) && talker.heard.ends_with(b"\r\n0\r\n\r\n");
-    Ok(is_right && is_last && is_whole && hears_a_reply(firms, talker)?)
-}
-
-// Whether a client hears a statement of so many entries in so many parts.
+// Whether a client hears a statement of so many entries in so many parts, between which another one
+// has its messages answered.
 fn hears_a_statement(alloc: Global, entries: u64, parts: u32) -> Result<bool, Fail> {
     let sends = with_statement(alloc, entries)?;
+    let more = transfers(alloc, 2000, 100)?;
     let want = Firms::with(alloc, &[FIRST])?.serve_alone(&sends);
     let mut firms = Firms::with(alloc, &[FIRST])?;
     let mut talker = Talker::new(alloc, &sends);
-    hears_all(alloc, &mut firms, &mut talker, parts, &want)
+    talker.send(ALL)?;
+    let mut is_right = hears_a_reply(&mut firms, &mut talker)?
+        && hears_a_reply(&mut firms, &mut talker)?;
+    is_right = is_right && firms.answer_client(&mut talker.client) == Some(Answered::Replied);
+    for _ in 1..parts {
+        is_right = is_right && hears_a_part(&mut firms, &mut talker)?;
+        let mut other = Talker::new(alloc, &more);
+        other.send(ALL)?;
+        is_right = is_right && hears_a_reply(&mut firms, &mut other)?;
+    }
+    is_right = is_right && talker.client.rest() == None;
+    talker.hear(ALL)?;
+    let is_whole = want.starts_with(&talker.heard) && talker.heard.ends_with(b"\r\n0\r\n\r\n");
+    Ok(is_right && is_whole && hears_a_reply(&mut firms, &mut talker)?)
 }
 
 #[test]

@@ -20,4 +20,3 @@ mod rounds;
 mod scarce_reads;
 mod stops;
 mod tables;
-mod taken_rows;

@@ -3,6 +3,7 @@ use Rattle.std.specs.List.{All}
 use Rattle.std.proofs.lemmas.List.Elements.{All-weaker}
 use Rattle.chain.specs.Pages.{IsRecord, page_of}
 use Rattle.chain.specs.Tables.{State}
+use Rattle.chain.proofs.TableCalls.{looks_in_turn}
 use Rattle.chain.proofs.PageWalks.{kept_within, ends_full, ends_or_goes, shown_before}
 use Rattle.chain.proofs.pages.look_within.Goals as goal
 use Rattle.chain.proofs.pages.look_within.Goals.{then-is_last, else-is_last}
@@ -12,28 +13,26 @@ look_through-requires-clause-kept g c live =
     let before = g.met.T.Tables.lived _ _ c.in_ok-records.ensures.leaves.follows live in
     let m = (g.T.Tables.means.state c.args.tables.now).now in
     let valid = g.met.T.Tables.valid _ before c.requires.usable in
-    subst (λ n. All (IsRecord g.Q.Query.time_of (g.Q.Query.is_kept n)) c.deref.result.now)
+    subst (λ n. All (IsRecord g.Q.Source.time_of (g.Q.Source.is_kept n)) c.deref.result.now)
     (sym (ap (λ (s : State). s.now) (c.in_ok-records.ensures.leaves.same live)))
-    (kept_within g.Q.Query.time_of (g.Q.Query.is_kept m) (g.Q.Query.records_in c.args.query.now m) c.deref.result.now
-    c.args.span.now (c.deref.ensures.value ∙ c.in_ok-records.ensures.value live) (g.met.Q.Query.in_turn c.args.query.now m valid))
+    (kept_within g.Q.Source.time_of (g.Q.Source.is_kept m) (g.Q.Source.records_in c.args.query.now m) c.deref.result.now
+    c.args.span.now (c.deref.ensures.value ∙ c.in_ok-records.ensures.value live) (g.met.Q.Source.in_turn c.args.query.now m valid))
 
 pub returns-then-is_full : goal.returns-then-is_full
 returns-then-is_full g c = record {
   value = λ live.
       let mid = g.met.T.Tables.lived _ _ c.in_ok-look_through.ensures.leaves.follows live in
       let m = (g.T.Tables.means.state c.args.tables.now).now in
-      ends_full g.Q.Query.time_of (g.Q.Query.shown_in c.args.query.now m) (g.Q.Query.asks c.args.query.now)
-      (g.Q.Query.records_in c.args.query.now m) c.deref.result.now c.args.span.now (page_of c.args.draft.now) (page_of c.look_through.new.draft)
+      ends_full g.Q.Source.time_of (g.Q.Query.shown_in c.args.query.now m) (g.Q.Query.asks c.args.query.now)
+      (g.Q.Source.records_in c.args.query.now m) c.deref.result.now c.args.span.now (page_of c.args.draft.now) (page_of c.look_through.new.draft)
       (c.deref.ensures.value ∙ c.in_ok-records.ensures.value mid)
-      (shown_before g.T.Tables.means c.args.tables.now c.within.new.tables g.Q.Query.time_of (g.Q.Query.shown_in c.args.query.now)
+      (shown_before g.T.Tables.means c.args.tables.now c.within.new.tables g.Q.Source.time_of (g.Q.Query.shown_in c.args.query.now)
       (g.Q.Query.asks c.args.query.now) c.deref.result.now (page_of c.args.draft.now) (page_of c.look_through.new.draft)
       (c.in_ok-records.ensures.leaves.same mid) (c.in_ok-look_through.ensures.value live))
       (sym c.is_full.ensures ∙ c.if-is_full.true);
-  leaves = record {
-    same = λ live. c.in_ok-look_through.ensures.leaves.same live ∙ c.in_ok-records.ensures.leaves.same (g.met.T.Tables.lived _ _ c.in_ok-look_through.ensures.leaves.follows live);
-    usable = c.in_ok-look_through.ensures.leaves.usable;
-    follows = g.met.T.Tables.then _ _ _ c.in_ok-records.ensures.leaves.follows c.in_ok-look_through.ensures.leaves.follows;
-  };
+  leaves =
+      looks_in_turn _ _ _ _ _ _ _ (record { then = g.met.T.Tables.then; lived = g.met.T.Tables.lived })
+      c.in_ok-records.ensures.leaves c.in_ok-look_through.ensures.leaves;
 }
 
 pub returns : goal.returns
@@ -42,14 +41,14 @@ returns g c = record {
       let mid = g.met.T.Tables.lived _ _ c.in_ok-look_through.ensures.leaves.follows live in
       let before = g.met.T.Tables.lived _ _ c.in_ok-records.ensures.leaves.follows mid in
       let m = (g.T.Tables.means.state c.args.tables.now).now in
-      let are = g.met.Q.Query.in_turn c.args.query.now m (g.met.T.Tables.valid _ before c.requires.usable) in
+      let are = g.met.Q.Source.in_turn c.args.query.now m (g.met.T.Tables.valid _ before c.requires.usable) in
       let found = c.deref.ensures.value ∙ c.in_ok-records.ensures.value mid in
       let counted : c.len.result ≡ length c.deref.result.now =
       c.len.ensures ∙ c.in_ok-records.records.ok.0 ∙ sym (ap length c.deref.ensures.value) in
-      ends_or_goes g.Q.Query.time_of (g.Q.Query.shown_in c.args.query.now m) (g.Q.Query.asks c.args.query.now)
-      (g.Q.Query.records_in c.args.query.now m) c.deref.result.now c.args.span.now (page_of c.args.draft.now) (page_of c.look_through.new.draft)
+      ends_or_goes g.Q.Source.time_of (g.Q.Query.shown_in c.args.query.now m) (g.Q.Query.asks c.args.query.now)
+      (g.Q.Source.records_in c.args.query.now m) c.deref.result.now c.args.span.now (page_of c.args.draft.now) (page_of c.look_through.new.draft)
       found
-      (shown_before g.T.Tables.means c.args.tables.now c.within.new.tables g.Q.Query.time_of (g.Q.Query.shown_in c.args.query.now)
+      (shown_before g.T.Tables.means c.args.tables.now c.within.new.tables g.Q.Source.time_of (g.Q.Query.shown_in c.args.query.now)
       (g.Q.Query.asks c.args.query.now) c.deref.result.now (page_of c.args.draft.now) (page_of c.look_through.new.draft)
       (c.in_ok-records.ensures.leaves.same mid) (c.in_ok-look_through.ensures.value live))
       (sym c.is_full.ensures ∙ c.if-is_full.false) (page_of c.if-is_last.draft) c.len.result counted
@@ -63,11 +62,9 @@ returns g c = record {
         | else-is_last w ↦ λ more. ap page_of w.draft-is
       ])
       c.requires.order c.requires.some are.rise
-      (All-weaker (IsRecord g.Q.Query.time_of (g.Q.Query.is_kept m)) (λ it. 0 < g.Q.Query.time_of it)
-      (λ it record_is. record_is.positive) (g.Q.Query.records_in c.args.query.now m) are.each);
-  leaves = record {
-    same = λ live. c.in_ok-look_through.ensures.leaves.same live ∙ c.in_ok-records.ensures.leaves.same (g.met.T.Tables.lived _ _ c.in_ok-look_through.ensures.leaves.follows live);
-    usable = c.in_ok-look_through.ensures.leaves.usable;
-    follows = g.met.T.Tables.then _ _ _ c.in_ok-records.ensures.leaves.follows c.in_ok-look_through.ensures.leaves.follows;
-  };
+      (All-weaker (IsRecord g.Q.Source.time_of (g.Q.Source.is_kept m)) (λ it. 0 < g.Q.Source.time_of it)
+      (λ it record_is. record_is.positive) (g.Q.Source.records_in c.args.query.now m) are.each);
+  leaves =
+      looks_in_turn _ _ _ _ _ _ _ (record { then = g.met.T.Tables.then; lived = g.met.T.Tables.lived })
+      c.in_ok-records.ensures.leaves c.in_ok-look_through.ensures.leaves;
 }

@@ -1,6 +1,6 @@
-use Rattle.std.proofs.Common.{refl}
 use Rattle.service.specs.Begun.{reply_of}
-use Rattle.clients.proofs.ExchangeLemmas.{answers_whole, answers_refused, held_so}
+use Rattle.clients.specs.Answering.{IsAllAnswered, IsWanting}
+use Rattle.clients.proofs.ExchangeLemmas.{answers_whole, answers_refused, held_so, stays_unmoved}
 use Rattle.clients.proofs.exchanging.exchange.Goals as goal
 
 pub returns-in-Whole : goal.returns-in-Whole
@@ -31,19 +31,11 @@ returns-in-Refused g c = record {
 }
 
 pub returns-in-Wanting : goal.returns-in-Wanting
-returns-in-Wanting g c = record {
-  answers = (
-    record { ledgers_same = refl; moments_same = refl; same = c.next.ensures.same },
-    rw c.in-Wanting.is at c.next.ensures.next,
-  );
-  follows = g.met.L.Ledgers.stays c.args.ledgers.now;
-}
+returns-in-Wanting g c =
+    stays_unmoved g.L.Ledgers.means IsWanting c.args.ledgers.now c.args.moments.now _ _
+    (g.met.L.Ledgers.stays c.args.ledgers.now) c.next.ensures.same (rw c.in-Wanting.is at c.next.ensures.next)
 
 pub returns-in-End : goal.returns-in-End
-returns-in-End g c = record {
-  answers = (
-    record { ledgers_same = refl; moments_same = refl; same = c.next.ensures.same },
-    rw c.in-End.is at c.next.ensures.next,
-  );
-  follows = g.met.L.Ledgers.stays c.args.ledgers.now;
-}
+returns-in-End g c =
+    stays_unmoved g.L.Ledgers.means IsAllAnswered c.args.ledgers.now c.args.moments.now _ _
+    (g.met.L.Ledgers.stays c.args.ledgers.now) c.next.ensures.same (rw c.in-End.is at c.next.ensures.next)

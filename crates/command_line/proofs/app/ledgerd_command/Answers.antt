@@ -1,5 +1,6 @@
+use Rattle.std.proofs.Common.{codes}
 use Rattle.std.proofs.lemmas.Result.{IfOk-weaker}
-use Rattle.command_line.specs.Ledgerd.{check_shape, copy_shape, ledgerd_app, lint_shape, migrate_shape, program, serve_shape, statement_shape, status_shape, stop_shape, tenant_add_shape, tenant_key_shape, tenants_shape, version_shape}
+use Rattle.command_line.specs.Ledgerd.{check_shape, copy_shape, ledgerd_app, lint_shape, migrate_shape, program, serve_shape, statement_shape, status_shape, stop_shape, tenant_shape, tenants_shape, version_shape}
 use Rattle.command_line.proofs.Builders.{with_command}
 use Rattle.command_line.proofs.app.ledgerd_command.Goals as goal
 
@@ -7,8 +8,8 @@ pub returns : goal.returns
 unfolding ledgerd_app
 returns c =
     let one = with_command program serve_shape _ _ _ c.in_ok-named_command.ensures c.in_ok-serve_command.ensures c.in_ok-subcommand.ensures in
-    let two = with_command _ tenant_add_shape _ _ _ one c.in_ok-tenant_add_command.ensures c.in_ok-subcommand-2.ensures in
-    let three = with_command _ tenant_key_shape _ _ _ two c.in_ok-tenant_key_command.ensures c.in_ok-subcommand-3.ensures in
+    let two = with_command _ (tenant_shape (codes "tenant-add")) _ _ _ one c.in_ok-tenant_command.ensures c.in_ok-subcommand-2.ensures in
+    let three = with_command _ (tenant_shape (codes "tenant-key")) _ _ _ two c.in_ok-tenant_command-2.ensures c.in_ok-subcommand-3.ensures in
     let four = with_command _ tenants_shape _ _ _ three c.in_ok-tenants_command.ensures c.in_ok-subcommand-4.ensures in
     let five = with_command _ status_shape _ _ _ four c.in_ok-status_command.ensures c.in_ok-subcommand-5.ensures in
     let six = with_command _ stop_shape _ _ _ five c.in_ok-stop_command.ensures c.in_ok-subcommand-6.ensures in

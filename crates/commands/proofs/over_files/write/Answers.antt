@@ -1,12 +1,10 @@
-use Rattle.std.proofs.Common.{List, subst}
+use Rattle.std.proofs.Common.{List, inl, inr, subst}
 use Rattle.std.specs.Io.KnownBytes.{Appends}
 use Rattle.chain.specs.declared.account_entry.AccountEntry.{AccountEntry}
 use Rattle.control.specs.declared.piece_asked.PieceAsked.{PieceAsked}
 use Rattle.commands.specs.Served.{OfAllPieces, served_text}
 use Rattle.sqlite_wal.specs.Files.{image_at}
-use Rattle.commands.specs.Undone.{IsNotWritten, IsUndone}
-use Rattle.commands.proofs.OpeningLemmas.{err_so}
-use Rattle.commands.proofs.UndoneLemmas.{undone_in, undone_served}
+use Rattle.commands.proofs.UndoneLemmas.{undone_in}
 use Rattle.commands.proofs.over_files.write.Goals as goal
 
 pub returns-in_ok-written-in-Some-clause-written : goal.returns-in_ok-written-in-Some-clause-written
@@ -25,27 +23,11 @@ returns-in_ok-written-in-Some-clause-written g c =
 
 pub returns-in_err-written-in-Some-clause-fault : goal.returns-in_err-written-in-Some-clause-fault
 returns-in_err-written-in-Some-clause-fault g c =
-    err_so
-    (IsUndone _ (image_at g.St.Start)
-    (IsNotWritten _ (image_at g.St.Start) g.O.Drain.written c.args.tenant.now c.args.account
-    c.args.asked.now c.args.out))
-    c.from_residual-in_err-written-in-Some.result c.in_err-written-in-Some.field-0.0
+    undone_in _ (image_at g.St.Start) _ c.in_err-written-in-Some.field-0.0 c.from_residual-in_err-written-in-Some.result
     c.from_residual-in_err-written-in-Some.ensures.1
-    (undone_served _ (image_at g.St.Start)
-    (IsNotWritten _ (image_at g.St.Start) g.O.Drain.written c.args.tenant.now c.args.account
-    c.args.asked.now c.args.out)
-    c.in_err-written-in-Some.field-0.0
-    (rw c.in_err-written-in-Some.was at c.write_served-out.ensures.written))
+    (inl (rw c.in_err-written-in-Some.was at c.write_served-out.ensures.written))
 
 pub returns-in_err-out-in-None-clause-fault : goal.returns-in_err-out-in-None-clause-fault
 returns-in_err-out-in-None-clause-fault g c =
-    err_so
-    (IsUndone _ (image_at g.St.Start)
-    (IsNotWritten _ (image_at g.St.Start) g.O.Drain.written c.args.tenant.now c.args.account
-    c.args.asked.now c.args.out))
-    c.from_residual-in_err-out-in-None.result c.in_err-out-in-None.field-0.0
-    c.from_residual-in_err-out-in-None.ensures.1
-    (undone_in _ (image_at g.St.Start)
-    (IsNotWritten _ (image_at g.St.Start) g.O.Drain.written c.args.tenant.now c.args.account
-    c.args.asked.now c.args.out)
-    c.in_err-out-in-None.field-0.0 c.in_err-out-in-None.ensures.fault)
+    undone_in _ (image_at g.St.Start) _ c.in_err-out-in-None.field-0.0 c.from_residual-in_err-out-in-None.result
+    c.from_residual-in_err-out-in-None.ensures.1 (inr c.in_err-out-in-None.ensures.fault)

@@ -1,12 +1,14 @@
-use Rattle.std.proofs.Common.{◌≡◌, ◌<◌, [], Ok, Err, refl, arith}
+use Rattle.std.proofs.Common.{◌≡◌, ◌<◌, [], Ok, Err, ap, arith}
 use Rattle.service.specs.Seen.{Whole}
 use Rattle.polling.specs.Laws.{empty_hall}
 use Rattle.polling.specs.Seating.{held_by}
 use Rattle.polling.specs.Serving.{Begin, rules}
 use Rattle.command_texts.specs.declared.fault.Fault.TheVariants.{Socket}
-use Rattle.commands.specs.declared.serving.Served.TheVariants.{Enough, Stopped}
+use Rattle.commands.specs.declared.serving.Served.{Served}
+use Rattle.commands.specs.declared.serving.Served.TheVariants.{Enough}
 use Rattle.commands.proofs.ServingLemmas.{ended_short, serves_so}
 use Rattle.commands.proofs.serving.serve_clients.Goals as goal
+use Rattle.commands.proofs.serving.serve_clients.Goals.{then-left-eq0, else-left-eq0+then-is_stopping}
 
 pub loop-init : goal.loop-init
 loop-init g c = record {
@@ -44,8 +46,8 @@ loop-preserved g c =
       told = omega (arith, on.told, before.told);
     }
 
-pub returns-then-left-eq0-clause-served : goal.returns-then-left-eq0-clause-served
-returns-then-left-eq0-clause-served g c =
+pub returns-in-loop-clause-served : goal.returns-in-loop-clause-served
+returns-in-loop-clause-served g c =
     let first = empty_hall (Whole c.args.ledgers.now) c.args.moments.now c.args.peers.now in
     let before = c.loop.invariant in
     let old = held_by c.loop.ledgers c.loop.moments c.loop.peers c.loop.seats in
@@ -63,47 +65,17 @@ returns-then-left-eq0-clause-served g c =
     c.each_is_served.ensures c.serving_is_a_course.ensures.course
     c.serving_is_a_course.ensures.alone (Whole c.args.ledgers.now) c.args.moments.now
     c.args.peers.now
-    c.is_settled.ensures all.last all.deeds all.all new all.keeps c.args.most (Ok Enough)
-    (λ is. omega (
-      arith,
-      one.count,
-      all.count,
-      before.left,
-      round.ensures.few,
-      c.if-left-eq0.true,
-    ))
-    (λ differs. absurd (differs refl))
-    tt
-
-pub returns-then-is_stopping-clause-served : goal.returns-then-is_stopping-clause-served
-returns-then-is_stopping-clause-served g c =
-    let first = empty_hall (Whole c.args.ledgers.now) c.args.moments.now c.args.peers.now in
-    let before = c.loop.invariant in
-    let old = held_by c.loop.ledgers c.loop.moments c.loop.peers c.loop.seats in
-    let round = c.serve_ready-left in
-    let mid = held_by round.new.ledgers round.new.moments round.new.peers round.new.seats in
-    let new =
-    held_by c.write_rest-then-is_stopping.new.ledgers round.new.moments c.write_rest-then-is_stopping.new.peers c.write_rest-then-is_stopping.new.seats in
-    let one =
-    c.serving_goes_on.ensures.served first before.last before.deeds before.served old mid
-    round.result before.keeps round.ensures.serves in
-    let all =
-    c.serving_goes_on.ensures.served first one.last one.deeds one.all mid new 0 one.keeps
-    (c.write_rest-then-is_stopping.ensures.serves round.new.moments) in
-    serves_so (rules g.L.Ledgers.means g.C.Moments.gives g.H.Steward.renews g.H.Steward.waits g.P.Peers.does)
-    c.each_is_served.ensures c.serving_is_a_course.ensures.course
-    c.serving_is_a_course.ensures.alone (Whole c.args.ledgers.now) c.args.moments.now
-    c.args.peers.now
-    c.is_settled.ensures all.last all.deeds all.all new all.keeps c.args.most (Ok Stopped)
-    (λ (is : Ok Stopped ≡ Ok Enough). cc)
-    (λ differs. omega (
-      arith,
-      one.count,
-      all.count,
-      before.left,
-      round.ensures.few,
-      c.if-left-eq0.false,
-    ))
+    c.is_settled.ensures all.last all.deeds all.all new all.keeps c.args.most (Ok c.if-left-eq0.served)
+    (λ is. elim c.if-left-eq0.branch [
+      | then-left-eq0 w ↦
+          omega (arith, one.count, all.count, before.left, round.ensures.few, w.if-left-eq0.true)
+      | else-left-eq0+then-is_stopping w ↦ absurd (let same = is in let other = w.served-is in cc)
+    ])
+    (λ differs. elim c.if-left-eq0.branch [
+      | then-left-eq0 w ↦ absurd (differs (ap (λ (served : Served). Ok served) w.served-is))
+      | else-left-eq0+then-is_stopping w ↦
+          omega (arith, one.count, all.count, before.left, round.ensures.few, w.if-left-eq0.false)
+    ])
     tt
 
 pub returns-clause-served : goal.returns-clause-served

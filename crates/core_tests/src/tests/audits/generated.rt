@@ -3,41 +3,23 @@
 use super::dice::Dice;
 use super::plain_audit::plain_find;
 use super::told_alone;
+use super::worked_rows::no_rows;
 use crate::tests::asserting::same;
-use rows::{
-    AccountCells, BalanceCells, HistoryCells, StatusCells, TenantOfDigest, TenantRows,
-    TransferCells,
-};
+use crate::tests::cells::{account, column};
+use rows::{BalanceCells, HistoryCells, StatusCells, TenantOfDigest, TenantRows, TransferCells};
 use std::alloc::{AllocError, Global};
+use std::mem;
 
-// The sums of an account.
-#[derive(Clone, Copy)]
-struct Sums {
-    dp: u128,
-    dd: u128,
-    cp: u128,
-    cc: u128,
-}
+// Two accounts, and an amount.
+type Sides = (usize, usize, u128);
 
 #[derive(Clone, Copy)]
 struct Pending {
     id: u128,
-    debit: usize,
-    credit: usize,
-    amount: u128,
+    sides: Sides,
     // In nanoseconds; 0 is never.
     due: u64,
     is_open: bool,
-}
-
-#[derive(Clone, Copy)]
-struct Entry {
-    debit: usize,
-    credit: usize,
-    amount: u128,
-    pending_id: u128,
-    timeout: i64,
-    flags: i64,
 }
 
 #[derive(Drop)]
@@ -45,34 +27,15 @@ struct Maker {
     dice: Dice,
     clock: u64,
     next_id: u128,
-    sums: [Sums; 4],
+    // Of each account, in the order of the columns.
+    sums: [[u128; 4]; 4],
     // One for each status row.
     pending: Vec<Pending>,
-    transfers: Vec<TransferCells>,
-    statuses: Vec<StatusCells>,
-    history: Vec<HistoryCells>,
+    // The history is in order of time.
+    rows: TenantRows,
 }
 
 impl Maker {
-    fn new(alloc: Global, seed: u64) -> Maker {
-        let none = Sums {
-            dp: 0,
-            dd: 0,
-            cp: 0,
-            cc: 0,
-        };
-        Maker {
-            dice: Dice(seed),
-            clock: 4,
-            next_id: 100,
-            sums: [none; 4],
-            pending: Vec::new(alloc),
-            transfers: Vec::new(alloc),
-            statuses: Vec::new(alloc),
-            history: Vec::new(alloc),
-        }
-    }
-
     // One transfer more, at a clock of its own.
     fn step(&mut self) -> Result<(), AllocError> {
         let jump = if self.dice.roll(8) == 0 {
@@ -82,7 +45,12 @@ impl Maker {
         };
         self.clock = self.clock.wrapping_add(jump);
         for i in 0..self.pending.len() {
-            self.expire(i);
+            if let Some(pending) = self.pending.get(i).copied() {
+                let has_come = pending.due != 0 && pending.due <= self.clock;
+                if pending.is_open && has_come {
+                    self.close(i, 3);
+                }
+            }
         }
         match self.dice.roll(4) {
             0 => self.single(),
@@ -92,47 +60,31 @@ impl Maker {
         }
     }
 
-    fn expire(&mut self, i: usize) {
-        if let Some(pending) = self.pending.get(i).copied() {
-            let has_come = pending.due != 0 && pending.due <= self.clock;
-            if pending.is_open && has_come {
-                self.close(i, 3);
-            }
-        }
-    }
-
     // A pending transfer is not open any more.
     fn close(&mut self, i: usize, state: i64) {
         if let Some(pending) = self.pending.get_mut(i) {
             pending.is_open = false;
-            let (debit, credit, amount) = (pending.debit, pending.credit, pending.amount);
-            self.release(debit, credit, amount);
+            let (debit, credit, amount) = pending.sides;
+            self.add((debit, credit, amount.wrapping_neg()), 0);
         }
-        if let Some(status) = self.statuses.get_mut(i) {
+        if let Some(status) = self.rows.statuses.get_mut(i) {
             status.state = state;
         }
     }
 
-    fn release(&mut self, debit: usize, credit: usize, amount: u128) {
+    // So much more is pending, or posted.
+    fn add(&mut self, (debit, credit, pending): Sides, posted: u128) {
         if let Some(sums) = self.sums.get_mut(debit) {
-            sums.dp = sums.dp.wrapping_sub(amount);
+            sums[0] = sums[0].wrapping_add(pending);
+            sums[1] = sums[1].wrapping_add(posted);
         }
         if let Some(sums) = self.sums.get_mut(credit) {
-            sums.cp = sums.cp.wrapping_sub(amount);
+            sums[2] = sums[2].wrapping_add(pending);
+            sums[3] = sums[3].wrapping_add(posted);
         }
     }
 
-    fn pay(&mut self, debit: usize, credit: usize, amount: u128) {
-        if let Some(sums) = self.sums.get_mut(debit) {
-            sums.dd = sums.dd.wrapping_add(amount);
-        }
-        if let Some(sums) = self.sums.get_mut(credit) {
-            sums.cc = sums.cc.wrapping_add(amount);
-        }
-    }
-
-    // Two accounts, and an amount.
-    fn sides(&mut self) -> (usize, usize, u128) {
+    fn sides(&mut self) -> Sides {
         let debit = self.dice.roll(4);
         let credit = (debit + 1 + self.dice.roll(3)) % 4;
         let amount = self.dice.roll(50) as u128 + 1;
@@ -141,52 +93,31 @@ impl Maker {
 
     fn single(&mut self) -> Result<(), AllocError> {
         let (debit, credit, amount) = self.sides();
-        self.pay(debit, credit, amount);
-        self.enter(Entry {
-            debit,
-            credit,
-            amount,
-            pending_id: 0,
-            timeout: 0,
-            flags: 0,
-        })
+        self.add((debit, credit, 0), amount);
+        self.enter((debit, credit, amount), 0, 0, 0)
     }
 
     fn hold(&mut self) -> Result<(), AllocError> {
-        let (debit, credit, amount) = self.sides();
+        let sides = self.sides();
         let timeout = self.dice.roll(3) as u64;
         let due = if timeout == 0 {
             0
         } else {
             self.clock.wrapping_add(timeout.wrapping_mul(1_000_000_000))
         };
-        if let Some(sums) = self.sums.get_mut(debit) {
-            sums.dp = sums.dp.wrapping_add(amount);
-        }
-        if let Some(sums) = self.sums.get_mut(credit) {
-            sums.cp = sums.cp.wrapping_add(amount);
-        }
+        self.add(sides, 0);
         self.pending.push(Pending {
             id: self.next_id,
-            debit,
-            credit,
-            amount,
+            sides,
             due,
             is_open: true,
         })?;
-        self.statuses.push(StatusCells {
+        self.rows.statuses.push(StatusCells {
             transfer: self.next_id.to_be_bytes(),
             state: 0,
             due: time(due),
         })?;
-        self.enter(Entry {
-            debit,
-            credit,
-            amount,
-            pending_id: 0,
-            timeout: time(timeout),
-            flags: 2,
-        })
+        self.enter(sides, 0, timeout, 2)
     }
 
     // The place of an open pending transfer, if it is found at once.
@@ -207,17 +138,11 @@ impl Maker {
         let Some((i, pending)) = self.some_open() else {
             return self.single();
         };
-        let part = (self.dice.roll(50) as u128 + 1).min(pending.amount);
+        let (debit, credit, amount) = pending.sides;
+        let part = (self.dice.roll(50) as u128 + 1).min(amount);
         self.close(i, 1);
-        self.pay(pending.debit, pending.credit, part);
-        self.enter(Entry {
-            debit: pending.debit,
-            credit: pending.credit,
-            amount: part,
-            pending_id: pending.id,
-            timeout: 0,
-            flags: 4,
-        })
+        self.add((debit, credit, 0), part);
+        self.enter((debit, credit, part), pending.id, 0, 4)
     }
 
     fn void(&mut self) -> Result<(), AllocError> {
@@ -225,85 +150,70 @@ impl Maker {
             return self.hold();
         };
         self.close(i, 2);
-        self.enter(Entry {
-            debit: pending.debit,
-            credit: pending.credit,
-            amount: pending.amount,
-            pending_id: pending.id,
-            timeout: 0,
-            flags: 8,
-        })
+        self.enter(pending.sides, pending.id, 0, 8)
     }
 
-    fn enter(&mut self, entry: Entry) -> Result<(), AllocError> {
-        self.transfers.push(TransferCells {
+    fn enter(
+        &mut self,
+        (debit, credit, amount): Sides,
+        pending_id: u128,
+        timeout: u64,
+        flags: i64,
+    ) -> Result<(), AllocError> {
+        self.rows.transfers.push(TransferCells {
             id: self.next_id.to_be_bytes(),
-            debit: account_id(entry.debit),
-            credit: account_id(entry.credit),
-            amount: entry.amount.to_be_bytes(),
-            pending_id: entry.pending_id.to_be_bytes(),
+            debit: account_id(debit),
+            credit: account_id(credit),
+            amount: amount.to_be_bytes(),
+            pending_id: pending_id.to_be_bytes(),
             user_data_128: [0; 16],
             user_data_64: [0; 8],
             user_data_32: 0,
-            timeout: entry.timeout,
+            timeout: time(timeout),
             ledger: 7,
             code: 1,
-            flags: entry.flags,
+            flags,
             timestamp: time(self.clock),
             at_clock: time(self.clock),
         })?;
         self.next_id = self.next_id.wrapping_add(1);
-        self.tell(entry.debit)?;
-        self.tell(entry.credit)
-    }
-
-    fn tell(&mut self, account: usize) -> Result<(), AllocError> {
-        if let Some(sums) = self.sums.get(account).copied() {
-            self.history.push(HistoryCells {
-                account: account_id(account),
-                timestamp: time(self.clock),
-                dp: sums.dp.to_be_bytes(),
-                dd: sums.dd.to_be_bytes(),
-                cp: sums.cp.to_be_bytes(),
-                cc: sums.cc.to_be_bytes(),
-            })?;
+        for account in [debit, credit] {
+            if let Some([dp, dd, cp, cc]) = self.sums.get(account) {
+                self.rows.history.push(HistoryCells {
+                    account: account_id(account),
+                    timestamp: time(self.clock),
+                    dp: dp.to_be_bytes(),
+                    dd: dd.to_be_bytes(),
+                    cp: cp.to_be_bytes(),
+                    cc: cc.to_be_bytes(),
+                })?;
+            }
         }
         Ok(())
     }
 
     // All rows, in order of key.
-    fn rows(self, alloc: Global) -> Result<TenantRows, AllocError> {
-        let mut rows = TenantRows {
-            clocks: Vec::new(alloc),
-            accounts: Vec::new(alloc),
-            transfers: self.transfers,
-            balances: Vec::new(alloc),
-            statuses: self.statuses,
-            history: Vec::new(alloc),
-            failed: Vec::new(alloc),
-        };
+    fn into_rows(self, alloc: Global) -> Result<TenantRows, AllocError> {
+        let mut rows = self.rows;
+        let history = mem::replace(&mut rows.history, Vec::new(alloc));
         rows.clocks.push(time(self.clock))?;
-        for (i, sums) in self.sums.iter().enumerate() {
-            rows.accounts.push(account(i))?;
-            rows.balances.push(balance(i, sums))?;
-            copy_history(&mut rows.history, &self.history, i)?;
+        for (id, [dp, dd, cp, cc]) in (1..5u8).zip(self.sums) {
+            rows.accounts.push(account(id, 0, i64::from(id)))?;
+            rows.balances.push(BalanceCells {
+                account: column(id),
+                dp: dp.to_be_bytes(),
+                dd: dd.to_be_bytes(),
+                cp: cp.to_be_bytes(),
+                cc: cc.to_be_bytes(),
+            })?;
+            for row in &history {
+                if row.account == column(id) {
+                    rows.history.push(*row)?;
+                }
+            }
         }
         Ok(rows)
     }
-}
-
-fn copy_history(
-    to: &mut Vec<HistoryCells>,
-    from: &[HistoryCells],
-    account: usize,
-) -> Result<(), AllocError> {
-    let id = account_id(account);
-    for row in from {
-        if row.account == id {
-            to.push(*row)?;
-        }
-    }
-    Ok(())
 }
 
 fn account_id(account: usize) -> [u8; 16] {
@@ -314,71 +224,47 @@ fn time(time: u64) -> i64 {
     i64::try_from(time).unwrap_or(0)
 }
 
-fn account(i: usize) -> AccountCells {
-    AccountCells {
-        id: account_id(i),
-        user_data_128: [0; 16],
-        user_data_64: [0; 8],
-        user_data_32: 0,
-        ledger: 7,
-        code: 10,
-        flags: 0,
-        timestamp: time(i as u64).wrapping_add(1),
-    }
-}
-
-fn balance(i: usize, sums: &Sums) -> BalanceCells {
-    BalanceCells {
-        account: account_id(i),
-        dp: sums.dp.to_be_bytes(),
-        dd: sums.dd.to_be_bytes(),
-        cp: sums.cp.to_be_bytes(),
-        cc: sums.cc.to_be_bytes(),
-    }
-}
-
-fn made(alloc: Global, seed: u64, transfers: usize) -> Result<TenantRows, AllocError> {
-    let mut maker = Maker::new(alloc, seed);
+fn made(alloc: Global, seed: u64, transfers: usize) -> Result<TenantOfDigest, AllocError> {
+    let mut maker = Maker {
+        dice: Dice(seed),
+        clock: 4,
+        next_id: 100,
+        sums: [[0; 4]; 4],
+        pending: Vec::new(alloc),
+        rows: no_rows(alloc),
+    };
     for _ in 0..transfers {
         maker.step()?;
     }
-    maker.rows(alloc)
-}
-
-fn found(alloc: Global, version: u32, rows: TenantRows) -> Result<Option<(u8, usize)>, AllocError> {
-    let one = TenantOfDigest {
+    Ok(TenantOfDigest {
         digest: [0; 32],
-        rows,
-    };
-    Ok(told_alone(alloc, version, one)?.map(|(kind, _, place)| (kind, place)))
+        rows: maker.into_rows(alloc)?,
+    })
 }
 
 #[test]
 fn many_small_ledgers(rt: HostRuntime) -> Result<(), AllocError> {
     for seed in 0..20 {
-        let rows = made(rt.alloc(), seed, 30)?;
-        same(&rt, "plainly", plain_find(rt.alloc(), 3, &rows)?, None);
-        same(&rt, "by the audit", found(rt.alloc(), 3, rows)?, None);
+        let one = made(rt.alloc(), seed, 30)?;
+        same(&rt, "plainly", plain_find(rt.alloc(), 3, &one.rows)?, None);
+        same(&rt, "by the audit", told_alone(rt.alloc(), 3, one)?, None);
     }
     Ok(())
 }
 
-// Two damages: a due time, and a sum in the history.
-fn damage(rows: &mut TenantRows) {
-    if let Some(status) = rows.statuses.get_mut(100) {
-        status.due = status.due.wrapping_add(1);
-    }
-    if let Some(row) = rows.history.get_mut(50) {
-        row.dd = [1; 16];
-    }
-}
-
+// Two damages are a due time, and a sum in the history.
 #[test]
 fn a_ledger_of_many_transfers(rt: HostRuntime) -> Result<(), AllocError> {
-    let rows = made(rt.alloc(), 1, 2000)?;
-    same(&rt, "undamaged", found(rt.alloc(), 2, rows)?, None);
-    let mut rows = made(rt.alloc(), 1, 2000)?;
-    damage(&mut rows);
-    same(&rt, "damaged", found(rt.alloc(), 3, rows)?, Some((5, 100)));
+    let one = made(rt.alloc(), 1, 2000)?;
+    same(&rt, "undamaged", told_alone(rt.alloc(), 2, one)?, None);
+    let mut one = made(rt.alloc(), 1, 2000)?;
+    if let Some(status) = one.rows.statuses.get_mut(100) {
+        status.due = status.due.wrapping_add(1);
+    }
+    if let Some(row) = one.rows.history.get_mut(50) {
+        row.dd = [1; 16];
+    }
+    let told = told_alone(rt.alloc(), 3, one)?;
+    same(&rt, "damaged", told, Some((5, 0, 100)));
     Ok(())
 }

@@ -44,7 +44,10 @@ pub(crate) fn plain_find(
     if !came {
         return Ok(Some((7, 0)));
     }
-    Ok(bad_failed(version, rows, &ledger).map(|place| (8, place)))
+    if let Some(place) = bad_failed(version, rows, &ledger) {
+        return Ok(Some((8, place)));
+    }
+    Ok(None)
 }
 
 fn first_refused(rows: &TenantRows, ledger: &mut Ledger) -> Result<Option<usize>, AllocError> {

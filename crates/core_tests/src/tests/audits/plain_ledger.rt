@@ -20,17 +20,13 @@ pub(crate) struct Ledger {
 pub(crate) fn opens(ledger: &Ledger, a: &Account) -> bool {
     let ev = AccountEvent {
         id: a.id,
-        debits_pending: Amount::ZERO,
-        debits_posted: Amount::ZERO,
-        credits_pending: Amount::ZERO,
-        credits_posted: Amount::ZERO,
         user_data_128: a.user_data_128,
         user_data_64: a.user_data_64,
         user_data_32: a.user_data_32,
         ledger: a.ledger,
         code: a.code,
         flags: a.flags,
-        timestamp: 0,
+        ..AccountEvent::default()
     };
     match decide_account(&account(ledger, a.id), &ev, a.timestamp) {
         AccountDecision::Accept(_) => true,
@@ -73,12 +69,14 @@ pub(crate) fn transfer(ledger: &Ledger, id: u128) -> Option<Transfer> {
 
 fn facts(ledger: &Ledger, ev: &TransferEvent) -> TransferFacts {
     let pending = named(ledger, ev);
+    let debit = with_balances(ledger, account_id(Side::Debit, ev, &pending));
+    let credit = with_balances(ledger, account_id(Side::Credit, ev, &pending));
     TransferFacts {
         existing: existing(ledger, ev.id),
         failed: false,
-        pending: with_state(ledger, &pending),
-        debit: with_balances(ledger, account_id(Side::Debit, ev, &pending)),
-        credit: with_balances(ledger, account_id(Side::Credit, ev, &pending)),
+        pending,
+        debit,
+        credit,
     }
 }
 
@@ -91,39 +89,6 @@ fn existing(ledger: &Ledger, id: u128) -> Option<ExistingTransfer> {
     })
 }
 
-// The transfer that a post or void names.
-fn named(ledger: &Ledger, ev: &TransferEvent) -> Option<Transfer> {
-    if ev.flags.is_post_or_void() {
-        transfer(ledger, ev.pending_id)
-    } else {
-        None
-    }
-}
-
-fn with_state(ledger: &Ledger, named: &Option<Transfer>) -> Option<PendingTransfer> {
-    match named {
-        Some(transfer) => Some(PendingTransfer {
-            transfer: *transfer,
-            state: state(ledger, transfer),
-        }),
-        None => None,
-    }
-}
-
-fn account_id(side: Side, ev: &TransferEvent, named: &Option<Transfer>) -> Option<u128> {
-    if ev.flags.is_post_or_void() {
-        match named {
-            Some(transfer) => Some(transfer.account_on(side)),
-            None => None,
-        }
-    } else {
-        match side {
-            Side::Debit => Some(ev.debit_account_id),
-            Side::Credit => Some(ev.credit_account_id),
-        }
-    }
-}
-
 fn ended_amount(ledger: &Ledger, t: &Transfer) -> Amount {
     if !t.flags.is_post_or_void() {
         return t.amount;
@@ -134,11 +99,34 @@ fn ended_amount(ledger: &Ledger, t: &Transfer) -> Amount {
     }
 }
 
-fn state(ledger: &Ledger, t: &Transfer) -> Option<PendingState> {
-    if t.flags.is_pending() {
-        Some(fate(&ledger.transfers, u64::MAX, ledger.clock, t))
+// The transfer that a post or void names, and what has become of it.
+fn named(ledger: &Ledger, ev: &TransferEvent) -> Option<PendingTransfer> {
+    if !ev.flags.is_post_or_void() {
+        return None;
+    }
+    let named = transfer(ledger, ev.pending_id)?;
+    let state = if named.flags.is_pending() {
+        Some(fate(&ledger.transfers, u64::MAX, ledger.clock, &named))
     } else {
         None
+    };
+    Some(PendingTransfer {
+        transfer: named,
+        state,
+    })
+}
+
+fn account_id(side: Side, ev: &TransferEvent, named: &Option<PendingTransfer>) -> Option<u128> {
+    if ev.flags.is_post_or_void() {
+        match named {
+            Some(named) => Some(named.transfer.account_on(side)),
+            None => None,
+        }
+    } else {
+        match side {
+            Side::Debit => Some(ev.debit_account_id),
+            Side::Credit => Some(ev.credit_account_id),
+        }
     }
 }
 

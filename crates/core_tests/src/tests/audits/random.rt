@@ -6,7 +6,7 @@ use super::plain_audit::plain_find;
 use super::worked_rows::{Sample, expired, posted_in_part, tenant};
 use crate::tests::asserting::same;
 use crate::tests::cells::column;
-use std::alloc::{AllocError, Global};
+use std::alloc::AllocError;
 
 fn change(sample: &mut Sample, dice: &mut Dice) {
     match dice.roll(6) {
@@ -94,23 +94,14 @@ fn changed(dice: &mut Dice) -> Sample {
     sample
 }
 
-// What the plain audit finds.
-fn plainly_found(
-    alloc: Global,
-    version: u32,
-    sample: &Sample,
-) -> Result<Option<(u8, usize)>, AllocError> {
-    let rows = tenant(alloc, version, 1, sample)?.rows;
-    plain_find(alloc, version, &rows)
-}
-
 #[test]
 fn one_or_two_cells_changed(rt: HostRuntime) -> Result<(), AllocError> {
     let mut dice = Dice(7);
     for round in 0..400 {
         let sample = changed(&mut dice);
         let version = [1, 2, 3][dice.roll(3)];
-        let plain = plainly_found(rt.alloc(), version, &sample)?;
+        let rows = tenant(rt.alloc(), version, 1, &sample)?.rows;
+        let plain = plain_find(rt.alloc(), version, &rows)?;
         let told = found(rt.alloc(), version, &sample)?;
         same(&rt, "the round", (round, told), (round, plain));
     }

@@ -1,8 +1,8 @@
 //! The rows of worked ledgers, cell by cell.
 
-use crate::tests::cells::column;
+use crate::tests::cells::{account, column, transfer};
 use rows::{
-    AccountCells, AllRows, BalanceCells, HistoryCells, StatusCells, TenantOfDigest, TenantRows,
+    AccountCells, BalanceCells, HistoryCells, StatusCells, TenantOfDigest, TenantRows,
     TransferCells,
 };
 use std::alloc::{AllocError, Global};
@@ -89,39 +89,6 @@ pub(crate) fn expired() -> Sample {
     }
 }
 
-fn account(id: u8, flags: i64, timestamp: i64) -> AccountCells {
-    AccountCells {
-        id: column(id),
-        user_data_128: [0; 16],
-        user_data_64: [0; 8],
-        user_data_32: 0,
-        ledger: 7,
-        code: 10,
-        flags,
-        timestamp,
-    }
-}
-
-// From account 1 to account 2, in the batch with the clock 7.
-fn transfer(id: u8, pending: u8, amount: u8, flags: i64, timestamp: i64) -> TransferCells {
-    TransferCells {
-        id: column(id),
-        debit: column(1),
-        credit: column(2),
-        amount: column(amount),
-        pending_id: column(pending),
-        user_data_128: [0; 16],
-        user_data_64: [0; 8],
-        user_data_32: 0,
-        timeout: 0,
-        ledger: 7,
-        code: 1,
-        flags,
-        timestamp,
-        at_clock: 7,
-    }
-}
-
 // Debits pending and posted, credits pending and posted.
 fn balance(account: u8, sums: [u8; 4]) -> BalanceCells {
     BalanceCells {
@@ -152,28 +119,6 @@ pub(crate) fn tenant(
     sample: &Sample,
 ) -> Result<TenantOfDigest, AllocError> {
     let mut rows = no_rows(alloc);
-    add_entries(&mut rows, sample)?;
-    if version >= 2 {
-        add_derived(&mut rows, sample)?;
-    }
-    let mut digest = [0; 32];
-    digest[0] = first_byte;
-    Ok(TenantOfDigest { digest, rows })
-}
-
-fn no_rows(alloc: Global) -> TenantRows {
-    TenantRows {
-        clocks: Vec::new(alloc),
-        accounts: Vec::new(alloc),
-        transfers: Vec::new(alloc),
-        balances: Vec::new(alloc),
-        statuses: Vec::new(alloc),
-        history: Vec::new(alloc),
-        failed: Vec::new(alloc),
-    }
-}
-
-fn add_entries(rows: &mut TenantRows, sample: &Sample) -> Result<(), AllocError> {
     if let Some(clock) = sample.clock {
         rows.clocks.push(clock)?;
     }
@@ -182,21 +127,26 @@ fn add_entries(rows: &mut TenantRows, sample: &Sample) -> Result<(), AllocError>
     for id in sample.failed.iter().flatten() {
         rows.failed.push(column(*id))?;
     }
-    Ok(())
+    // The rows that the entries lead to.
+    if version >= 2 {
+        rows.balances.extend_from_slice(&sample.balances)?;
+        rows.statuses.extend_from_slice(&sample.statuses)?;
+        rows.history.extend_from_slice(&sample.history)?;
+    }
+    let mut digest = [0; 32];
+    digest[0] = first_byte;
+    Ok(TenantOfDigest { digest, rows })
 }
 
-// The rows that the entries lead to.
-fn add_derived(rows: &mut TenantRows, sample: &Sample) -> Result<(), AllocError> {
-    rows.balances.extend_from_slice(&sample.balances)?;
-    rows.statuses.extend_from_slice(&sample.statuses)?;
-    rows.history.extend_from_slice(&sample.history)
-}
-
-/// All rows of a file with these tenants.
-pub(crate) fn file(alloc: Global, version: u32, tenants: Vec<TenantOfDigest>) -> AllRows {
-    AllRows {
-        version,
-        directory: Vec::new(alloc),
-        tenants,
+/// No rows in any table.
+pub(crate) fn no_rows(alloc: Global) -> TenantRows {
+    TenantRows {
+        clocks: Vec::new(alloc),
+        accounts: Vec::new(alloc),
+        transfers: Vec::new(alloc),
+        balances: Vec::new(alloc),
+        statuses: Vec::new(alloc),
+        history: Vec::new(alloc),
+        failed: Vec::new(alloc),
     }
 }

@@ -1,6 +1,6 @@
 use super::firms::*;
 use crate::tests::asserting::same;
-use chain::{BatchFault, BatchReply, ReadFault, Tables, Work};
+use chain::{BatchFault, BatchReply, Ledgers, ReadFault, Tables, Work};
 use records::{
     AccountFilter, EventResult, FilterFlags, Order, TransferEvent, TransferResult, Unavailable,
 };
@@ -35,27 +35,19 @@ fn knows_each_tenant_by_its_digest(rt: HostRuntime) -> Result<(), Fail> {
         ("the other firm", OTHER, true),
         ("nobody", NOBODY, false),
     ] {
-        same(&rt, case, firms.knows(&digest), Ok(want));
+        same(&rt, case, firms.ledgers.knows(&digest), Ok(want));
     }
     Ok(())
-}
-
-// The clock and the results of a batch of the first firm.
-fn sent(
-    firms: &mut Firms,
-    sending: Sending<'_>,
-) -> Result<(u64, Vec<EventResult<TransferResult>>), Fail> {
-    match firms.run(&FIRM, sending)? {
-        BatchReply::Done { clock, results } => Ok((clock, results)),
-        BatchReply::ClockExhausted => Err("the clock is exhausted".into()),
-    }
 }
 
 #[test]
 fn a_batch_is_its_tenants_alone(rt: HostRuntime) -> Result<(), Fail> {
     let mut firms = Firms::base(rt.alloc())?;
     let transfers = [transfer(100, (1, 2), 10)];
-    let (clock, results) = sent(&mut firms, sending(rt.alloc(), &transfers, 0))?;
+    let sending = sending(rt.alloc(), &transfers, 0);
+    let BatchReply::Done { clock, results } = firms.ledgers.in_batch(&FIRM, sending)? else {
+        return Err("the clock is exhausted".into());
+    };
     same(&rt, "the clock", clock, 5);
     let accepted = [EventResult {
         result: TransferResult::Accepted,
@@ -63,7 +55,7 @@ fn a_batch_is_its_tenants_alone(rt: HostRuntime) -> Result<(), Fail> {
     }];
     same(&rt, "results", results.as_slice(), accepted.as_slice());
 
-    let of_other = firms.transfers(&OTHER, &[100])?;
+    let of_other = firms.ledgers.lookup_transfers(rt.alloc(), &OTHER, &[100])?;
     same(&rt, "the other firm's clock", of_other.clock, 0);
     same(&rt, "the other firm", of_other.entries.len(), 0);
     Ok(())
@@ -76,30 +68,26 @@ fn a_batch_that_fails_keeps_nothing(rt: HostRuntime) -> Result<(), Fail> {
     let failing = Failing {
         sending: sending(rt.alloc(), &transfers, 50),
     };
-    let told = firms.run(&FIRM, failing);
+    let told = firms.ledgers.in_batch(&FIRM, failing);
     let memory = BatchFault::Unavailable(Unavailable::Memory);
     same(&rt, "the batch", told, Err(memory));
-    let found = firms.transfers(&FIRM, &[100])?;
+    let found = firms.ledgers.lookup_transfers(rt.alloc(), &FIRM, &[100])?;
     same(&rt, "the clock", found.clock, 4);
     same(&rt, "what is kept", found.entries.len(), 0);
     Ok(())
 }
 
 #[test]
-fn nobody_sends_or_looks_up(rt: HostRuntime) -> Result<(), Fail> {
-    let mut firms = Firms::base(rt.alloc())?;
-    let told = firms.run(&NOBODY, sending(rt.alloc(), &[], 0));
+fn nobody_is_answered(rt: HostRuntime) -> Result<(), Fail> {
+    let alloc = rt.alloc();
+    let mut firms = Firms::base(alloc)?;
+    let ledgers = &mut firms.ledgers;
+    let told = ledgers.in_batch(&NOBODY, sending(alloc, &[], 0));
     same(&rt, "a batch", told.err(), Some(BatchFault::UnknownKey));
-    let accounts = firms.accounts(&NOBODY, &[1]).err();
+    let accounts = ledgers.lookup_accounts(alloc, &NOBODY, &[1]).err();
     same(&rt, "accounts", accounts, UNKNOWN_KEY);
-    let transfers = firms.transfers(&NOBODY, &[100]).err();
+    let transfers = ledgers.lookup_transfers(alloc, &NOBODY, &[100]).err();
     same(&rt, "transfers", transfers, UNKNOWN_KEY);
-    Ok(())
-}
-
-#[test]
-fn nobody_is_told_of_an_account(rt: HostRuntime) -> Result<(), Fail> {
-    let mut firms = Firms::base(rt.alloc())?;
     let asked = AccountFilter {
         account_id: 1,
         timestamp_min: 0,
@@ -107,9 +95,9 @@ fn nobody_is_told_of_an_account(rt: HostRuntime) -> Result<(), Fail> {
         limit: 10,
         flags: FilterFlags(3),
     };
-    let history = firms.history(&NOBODY, &asked).err();
+    let history = ledgers.history_transfers(alloc, &NOBODY, &asked).err();
     same(&rt, "a history", history, UNKNOWN_KEY);
-    let balances = firms.balances(&NOBODY, &asked).err();
+    let balances = ledgers.history_balances(alloc, &NOBODY, &asked).err();
     same(&rt, "balances", balances, UNKNOWN_KEY);
     let (told, rows) = firms.statement(&NOBODY, 1, Order::Oldest, 10);
     same(&rt, "a statement", told.err(), UNKNOWN_KEY);

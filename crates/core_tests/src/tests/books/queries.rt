@@ -1,7 +1,7 @@
 //! Pages of transfers, accounts and open holds, each row counted by hand.
 use super::firms::{FIRM, Firms, NOBODY};
 use crate::tests::asserting::same;
-use chain::{QueryPage, ReadFault};
+use chain::{Ledgers, QueryPage, ReadFault};
 use records::{
     AccountWithBalances, Hold, PageFilter, PageFlags, PendingState, QueryFilter, Tags, Transfer,
     TransferEvent,
@@ -28,18 +28,17 @@ const INVOICE: Tags = Tags {
     ..ANY
 };
 
-// A page between two bounds, themselves included.
-fn page(bounds: (u64, u64), limit: u32, flags: u16) -> PageFilter {
-    PageFilter {
-        timestamp_min: bounds.0,
-        timestamp_max: bounds.1,
-        limit,
-        flags: PageFlags(flags),
+// What is asked for between two bounds, themselves included.
+fn query(tags: Tags, bounds: (u64, u64), limit: u32, flags: u16) -> QueryFilter {
+    QueryFilter {
+        tags,
+        page: PageFilter {
+            timestamp_min: bounds.0,
+            timestamp_max: bounds.1,
+            limit,
+            flags: PageFlags(flags),
+        },
     }
-}
-
-fn query(tags: Tags, page: PageFilter) -> QueryFilter {
-    QueryFilter { tags, page }
 }
 
 // Accounts 1 to 4 have the timestamps 1 to 4, and the transfers 100 to 104 those of 5 to 9. Of
@@ -67,7 +66,7 @@ fn are_paged(
 ) -> Result<(), Fail> {
     let mut firms = five_transfers(alloc)?;
     for (asked, want, next) in cases {
-        let seen: QueryPage<Transfer> = firms.query_transfers(&FIRM, asked)?;
+        let seen: QueryPage<Transfer> = firms.ledgers.query_transfers(alloc, &FIRM, asked)?;
         let ids: Vec<u128> = seen.entries.iter().map(|entry| entry.id).collect(alloc)?;
         same(rt, "the ids", ids.as_slice(), *want);
         same(rt, "the next page", seen.next, *next);
@@ -79,16 +78,16 @@ fn are_paged(
 #[test]
 fn pages_of_transfers(rt: HostRuntime) -> Result<(), Fail> {
     let cases: [(QueryFilter, &[u128], u64); 5] = [
-        (query(ANY, page((0, 0), 2, OLDEST)), &[100, 101], 7),
-        (query(ANY, page((7, 0), 2, OLDEST)), &[102, 103], 9),
-        (query(ANY, page((9, 0), 2, OLDEST)), &[104], 0),
+        (query(ANY, (0, 0), 2, OLDEST), &[100, 101], 7),
+        (query(ANY, (7, 0), 2, OLDEST), &[102, 103], 9),
+        (query(ANY, (9, 0), 2, OLDEST), &[104], 0),
         // Exactly at the limit: whether more lies behind is not looked at.
         (
-            query(ANY, page((0, 0), 5, OLDEST)),
+            query(ANY, (0, 0), 5, OLDEST),
             &[100, 101, 102, 103, 104],
             10,
         ),
-        (query(ANY, page((10, 0), 5, OLDEST)), &[], 0),
+        (query(ANY, (10, 0), 5, OLDEST), &[], 0),
     ];
     are_paged(&rt, rt.alloc(), &cases)
 }
@@ -96,9 +95,9 @@ fn pages_of_transfers(rt: HostRuntime) -> Result<(), Fail> {
 #[test]
 fn pages_of_the_newest_transfers(rt: HostRuntime) -> Result<(), Fail> {
     let cases: [(QueryFilter, &[u128], u64); 3] = [
-        (query(ANY, page((0, 0), 2, NEWEST)), &[104, 103], 7),
-        (query(ANY, page((0, 7), 2, NEWEST)), &[102, 101], 5),
-        (query(ANY, page((0, 5), 2, NEWEST)), &[100], 0),
+        (query(ANY, (0, 0), 2, NEWEST), &[104, 103], 7),
+        (query(ANY, (0, 7), 2, NEWEST), &[102, 101], 5),
+        (query(ANY, (0, 5), 2, NEWEST), &[100], 0),
     ];
     are_paged(&rt, rt.alloc(), &cases)
 }
@@ -107,12 +106,12 @@ fn pages_of_the_newest_transfers(rt: HostRuntime) -> Result<(), Fail> {
 fn pages_by_bounds_and_tags(rt: HostRuntime) -> Result<(), Fail> {
     let other = Tags { ledger: 8, ..ANY };
     let cases: [(QueryFilter, &[u128], u64); 5] = [
-        (query(ANY, page((6, 8), 5, OLDEST)), &[101, 102, 103], 0),
+        (query(ANY, (6, 8), 5, OLDEST), &[101, 102, 103], 0),
         // The minimum is above the maximum.
-        (query(ANY, page((8, 7), 5, OLDEST)), &[], 0),
-        (query(INVOICE, page((0, 0), 2, OLDEST)), &[102], 0),
-        (query(INVOICE, page((0, 0), 1, OLDEST)), &[102], 8),
-        (query(other, page((0, 0), 5, OLDEST)), &[], 0),
+        (query(ANY, (8, 7), 5, OLDEST), &[], 0),
+        (query(INVOICE, (0, 0), 2, OLDEST), &[102], 0),
+        (query(INVOICE, (0, 0), 1, OLDEST), &[102], 8),
+        (query(other, (0, 0), 5, OLDEST), &[], 0),
     ];
     are_paged(&rt, rt.alloc(), &cases)
 }
@@ -120,8 +119,10 @@ fn pages_by_bounds_and_tags(rt: HostRuntime) -> Result<(), Fail> {
 #[test]
 fn pages_of_accounts(rt: HostRuntime) -> Result<(), Fail> {
     let mut firms = five_transfers(rt.alloc())?;
-    let asked = query(ANY, page((2, 0), 2, OLDEST));
-    let seen: QueryPage<AccountWithBalances> = firms.query_accounts(&FIRM, &asked)?;
+    let asked = query(ANY, (2, 0), 2, OLDEST);
+    let seen: QueryPage<AccountWithBalances> = firms
+        .ledgers
+        .query_accounts(rt.alloc(), &FIRM, &asked)?;
     let ids: Vec<u128> = seen
         .entries
         .iter()
@@ -141,8 +142,8 @@ fn pages_of_accounts(rt: HostRuntime) -> Result<(), Fail> {
         credits.as_slice(),
         [19, 0].as_slice(),
     );
-    let newest = query(ANY, page((0, 0), 4, NEWEST));
-    let seen = firms.query_accounts(&FIRM, &newest)?;
+    let newest = query(ANY, (0, 0), 4, NEWEST);
+    let seen = firms.ledgers.query_accounts(rt.alloc(), &FIRM, &newest)?;
     same(&rt, "how many", seen.entries.len(), 4);
     same(&rt, "the next page", seen.next, 0);
     Ok(())
@@ -163,7 +164,8 @@ fn holds_and_what_became_of_them(rt: HostRuntime) -> Result<(), Fail> {
     firms.send(0, &[post(105, 100, 40)])?;
     let open = hold(103, 8, PendingState::Open);
     let posted = hold(100, 5, PendingState::Posted);
-    let seen = firms.open_pending(&FIRM, &page((0, 0), 10, OLDEST))?;
+    let asked = query(ANY, (0, 0), 10, OLDEST).page;
+    let seen = firms.ledgers.open_pending(rt.alloc(), &FIRM, &asked)?;
     same(
         &rt,
         "open holds",
@@ -171,7 +173,9 @@ fn holds_and_what_became_of_them(rt: HostRuntime) -> Result<(), Fail> {
         [open].as_slice(),
     );
     same(&rt, "the next page", seen.next, 0);
-    let found = firms.pending(&FIRM, &[103, 101, 9, 100, 103])?;
+    let found = firms
+        .ledgers
+        .lookup_pending(rt.alloc(), &FIRM, &[103, 101, 9, 100, 103])?;
     let want = [open, posted, open];
     same(&rt, "holds", found.entries.as_slice(), want.as_slice());
     Ok(())
@@ -180,8 +184,8 @@ fn holds_and_what_became_of_them(rt: HostRuntime) -> Result<(), Fail> {
 #[test]
 fn nobody_is_asked(rt: HostRuntime) -> Result<(), Fail> {
     let mut firms = five_transfers(rt.alloc())?;
-    let asked = query(ANY, page((0, 0), 2, OLDEST));
-    let told = firms.query_transfers(&NOBODY, &asked);
+    let asked = query(ANY, (0, 0), 2, OLDEST);
+    let told = firms.ledgers.query_transfers(rt.alloc(), &NOBODY, &asked);
     same(&rt, "a query", told.err(), Some(ReadFault::UnknownKey));
     Ok(())
 }

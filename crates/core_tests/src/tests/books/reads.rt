@@ -1,7 +1,7 @@
 use super::firms::{FIRM, Firms};
 use crate::tests::asserting::same;
 use amount::Amount;
-use chain::ReadFault;
+use chain::{Ledgers, ReadFault};
 use records::{
     Account, AccountFilter, AccountWithBalances, BalanceAt, FilterFlags, Order, Transfer,
     TransferFlags,
@@ -66,25 +66,29 @@ fn with_balances(id: u64, debits: (u128, u128), credits: (u128, u128)) -> Accoun
     }
 }
 
-fn debited() -> AccountWithBalances {
-    with_balances(1, (0, 40), (0, 0))
-}
-
-fn credited() -> AccountWithBalances {
-    with_balances(2, (0, 0), (0, 40))
-}
-
 #[test]
 fn looks_up_accounts_in_the_order_asked(rt: HostRuntime) -> Result<(), Fail> {
-    let found = posted_in_part(rt.alloc())?.accounts(&FIRM, &[2, 9, 1, 2])?;
+    let mut firms = posted_in_part(rt.alloc())?;
+    let found = firms
+        .ledgers
+        .lookup_accounts(rt.alloc(), &FIRM, &[2, 9, 1, 2])?;
     same(&rt, "the clock", found.clock, 7);
-    let want = [credited(), debited(), credited()];
+    let want = [
+        with_balances(2, (0, 0), (0, 40)),
+        with_balances(1, (0, 40), (0, 0)),
+        with_balances(2, (0, 0), (0, 40)),
+    ];
     same(&rt, "accounts", found.entries.as_slice(), want.as_slice());
     Ok(())
 }
 
-// The transfers 100 and 101 as they are kept.
-fn pending_and_post() -> (Transfer, Transfer) {
+#[test]
+fn looks_up_transfers_in_the_order_asked(rt: HostRuntime) -> Result<(), Fail> {
+    let mut firms = posted_in_part(rt.alloc())?;
+    let found = firms
+        .ledgers
+        .lookup_transfers(rt.alloc(), &FIRM, &[101, 9, 100])?;
+    same(&rt, "the clock", found.clock, 7);
     let pending = Transfer {
         id: 100,
         debit_account_id: 1,
@@ -105,14 +109,6 @@ fn pending_and_post() -> (Transfer, Transfer) {
         timestamp: 6,
         ..pending
     };
-    (pending, posted)
-}
-
-#[test]
-fn looks_up_transfers_in_the_order_asked(rt: HostRuntime) -> Result<(), Fail> {
-    let found = posted_in_part(rt.alloc())?.transfers(&FIRM, &[101, 9, 100])?;
-    same(&rt, "the clock", found.clock, 7);
-    let (pending, posted) = pending_and_post();
     let want = [posted, pending];
     same(&rt, "transfers", found.entries.as_slice(), want.as_slice());
     Ok(())
@@ -126,7 +122,7 @@ fn are_shown(
 ) -> Result<(), Fail> {
     let mut firms = balancing(alloc)?;
     for (asked, want) in cases {
-        let found = firms.history(&FIRM, asked)?;
+        let found = firms.ledgers.history_transfers(alloc, &FIRM, asked)?;
         let ids: Vec<u128> = found.entries.iter().map(|entry| entry.id).collect(alloc)?;
         same(rt, "the ids", ids.as_slice(), *want);
     }
@@ -176,7 +172,8 @@ fn balance_at(timestamp: u64, debits_posted: u128) -> BalanceAt {
 #[test]
 fn balances_after_each_entry(rt: HostRuntime) -> Result<(), Fail> {
     let asked = filter(3, BOTH_SIDES, 10);
-    let found = balancing(rt.alloc())?.balances(&FIRM, &asked)?;
+    let mut firms = balancing(rt.alloc())?;
+    let found = firms.ledgers.history_balances(rt.alloc(), &FIRM, &asked)?;
     same(&rt, "the clock", found.clock, 7);
     let want = [balance_at(5, 0), balance_at(6, 20), balance_at(7, 50)];
     same(&rt, "balances", found.entries.as_slice(), want.as_slice());
@@ -185,18 +182,16 @@ fn balances_after_each_entry(rt: HostRuntime) -> Result<(), Fail> {
 
 #[test]
 fn no_account_and_no_history(rt: HostRuntime) -> Result<(), Fail> {
-    let mut firms = balancing(rt.alloc())?;
-    let of_first = firms.balances(&FIRM, &filter(1, BOTH_SIDES, 10));
-    same(
-        &rt,
-        "balances of 1",
-        of_first.err(),
-        Some(ReadFault::NoHistory),
-    );
+    let alloc = rt.alloc();
+    let mut firms = balancing(alloc)?;
+    let ledgers = &mut firms.ledgers;
+    let asked = filter(1, BOTH_SIDES, 10);
+    let of_first = ledgers.history_balances(alloc, &FIRM, &asked).err();
+    same(&rt, "balances of 1", of_first, Some(ReadFault::NoHistory));
     let asked = filter(9, BOTH_SIDES, 10);
-    let history = firms.history(&FIRM, &asked).err();
+    let history = ledgers.history_transfers(alloc, &FIRM, &asked).err();
     same(&rt, "a history of 9", history, NO_ACCOUNT);
-    let balances = firms.balances(&FIRM, &asked).err();
+    let balances = ledgers.history_balances(alloc, &FIRM, &asked).err();
     same(&rt, "balances of 9", balances, NO_ACCOUNT);
     let (told, rows) = firms.statement(&FIRM, 9, Order::Oldest, 10);
     same(&rt, "a statement of 9", told.err(), NO_ACCOUNT);

@@ -2,8 +2,8 @@
 
 use super::firms::*;
 use crate::tests::asserting::same;
-use chain::{BatchFault, BatchReply, Ledgers, RoundWork};
-use records::{TransferResult, Unavailable};
+use chain::{BatchFault, BatchReply, Ledgers, RoundWork, Rounds};
+use records::Unavailable;
 use samples::transfer;
 use std::alloc::Global;
 use std::test::Fail;
@@ -46,16 +46,9 @@ fn sent<L: Ledgers>(
         moment: 0,
     };
     match ledgers.in_batch(digest, sending) {
-        Ok(reply) => Ok(clock_of(&reply)),
-        Err(BatchFault::UnknownKey) => Ok(None),
+        Ok(BatchReply::Done { clock, .. }) => Ok(Some(clock)),
+        Ok(BatchReply::ClockExhausted) | Err(BatchFault::UnknownKey) => Ok(None),
         Err(BatchFault::Unavailable(why)) => Err(why),
-    }
-}
-
-fn clock_of(reply: &BatchReply<TransferResult>) -> Option<u64> {
-    match reply {
-        BatchReply::Done { clock, .. } => Some(*clock),
-        BatchReply::ClockExhausted => None,
     }
 }
 
@@ -63,28 +56,28 @@ fn clock_of(reply: &BatchReply<TransferResult>) -> Option<u64> {
 fn a_round_is_kept_whole_or_not_at_all(rt: HostRuntime) -> Result<(), Fail> {
     let alloc = rt.alloc();
     let mut firms = Firms::base(alloc)?;
+    let ledgers = &mut firms.ledgers;
     let failing = AllSend {
         alloc,
         wants_memory: true,
     };
-    same(
-        &rt,
-        "a round",
-        firms.round(failing),
-        Err(Unavailable::Memory),
-    );
-    same(&rt, "the clock", firms.transfers(&FIRM, &[100])?.clock, 4);
-    same(&rt, "the other", firms.transfers(&OTHER, &[100])?.clock, 0);
+    let told = ledgers.in_round(failing);
+    same(&rt, "a round", told, Err(Unavailable::Memory));
+    let clock = ledgers.lookup_transfers(alloc, &FIRM, &[100])?.clock;
+    same(&rt, "the clock", clock, 4);
+    let clock = ledgers.lookup_transfers(alloc, &OTHER, &[100])?.clock;
+    same(&rt, "the other", clock, 0);
 
     let sending = AllSend {
         alloc,
         wants_memory: false,
     };
     let clocks = [Some(5), Some(1), None];
-    same(&rt, "a round", firms.round(sending), Ok(clocks));
-    let found = firms.transfers(&FIRM, &[100])?;
+    same(&rt, "a round", ledgers.in_round(sending), Ok(clocks));
+    let found = ledgers.lookup_transfers(alloc, &FIRM, &[100])?;
     same(&rt, "the clock", found.clock, 5);
     same(&rt, "what is kept", found.entries.len(), 1);
-    same(&rt, "the other", firms.transfers(&OTHER, &[100])?.clock, 1);
+    let clock = ledgers.lookup_transfers(alloc, &OTHER, &[100])?.clock;
+    same(&rt, "the other", clock, 1);
     Ok(())
 }

@@ -1,7 +1,7 @@
 ghost use Rattle.std.specs.Prelude.{◌≡◌};
 
 use crate::tests::asserting::same;
-use crate::tests::cells::column;
+use crate::tests::cells::account;
 use records::{Account, AccountFlags};
 use rows::AccountCells;
 
@@ -21,42 +21,41 @@ fn third_account() -> Account
     }
 }
 
-// The cells of that account, but for these numbers: user_data_32, ledger, code, flags, timestamp.
-fn cells_with(numbers: [i64; 5]) -> AccountCells {
-    let [user_data_32, ledger, code, flags, timestamp] = numbers;
+// The cells of that account.
+fn its_cells() -> AccountCells {
     AccountCells {
-        id: column(3),
         user_data_128: [0xff; 16],
         user_data_64: [0, 0, 0, 0, 0, 0, 1, 2],
-        user_data_32,
-        ledger,
-        code,
-        flags,
-        timestamp,
+        user_data_32: 4294967295,
+        ..account(3, 10, 3)
     }
 }
 
 #[test]
 fn one_account(rt: HostRuntime) {
-    let cells = cells_with([4294967295, 7, 10, 10, 3]);
-    same(
-        &rt,
-        "to cells",
-        AccountCells::from_account(&third_account()),
-        cells,
-    );
+    let cells = its_cells();
+    let told = AccountCells::from_account(&third_account());
+    same(&rt, "to cells", told, cells);
     same(&rt, "from cells", cells.to_account(), Some(third_account()));
 }
 
 #[test]
 fn no_account_outside_its_widths(rt: HostRuntime) {
-    for (case, numbers) in [
-        ("user_data_32", [-1, 7, 10, 10, 3]),
-        ("ledger", [4294967295, 4294967296, 10, 10, 3]),
-        ("code", [4294967295, 7, 65536, 10, 3]),
-        ("flags", [4294967295, 7, 10, -10, 3]),
-        ("timestamp", [4294967295, 7, 10, 10, i64::MIN]),
+    for (case, number) in [
+        ("user_data_32", -1),
+        ("ledger", 4294967296),
+        ("code", 65536),
+        ("flags", -10),
+        ("timestamp", i64::MIN),
     ] {
-        same(&rt, case, cells_with(numbers).to_account(), None);
+        let mut cells = its_cells();
+        match case {
+            "user_data_32" => cells.user_data_32 = number,
+            "ledger" => cells.ledger = number,
+            "code" => cells.code = number,
+            "flags" => cells.flags = number,
+            _ => cells.timestamp = number,
+        }
+        same(&rt, case, cells.to_account(), None);
     }
 }

@@ -1,18 +1,13 @@
 use crate::tests::asserting::same;
 use crate::tests::cells::column;
-use records::Balances;
 use rows::{BalanceCells, BalanceRow, HistoryCells, HistoryRow};
-
-// Four balances that are all different.
-fn balances() -> Balances {
-    samples::balances((60, 40), (u128::MAX, 0))
-}
+use samples::balances;
 
 #[test]
 fn one_balance(rt: HostRuntime) {
     let row = BalanceRow {
         account: 1,
-        balances: balances(),
+        balances: balances((60, 40), (u128::MAX, 0)),
     };
     let cells = BalanceCells {
         account: column(1),
@@ -30,7 +25,7 @@ fn one_history_row(rt: HostRuntime) {
     let row = HistoryRow {
         account: 2,
         timestamp: 5,
-        balances: balances(),
+        balances: balances((60, 40), (u128::MAX, 0)),
     };
     let cells = HistoryCells {
         account: column(2),

@@ -1,7 +1,7 @@
 ghost use Rattle.std.specs.Prelude.{◌≡◌};
 
 use crate::tests::asserting::same;
-use crate::tests::cells::column;
+use crate::tests::cells::transfer;
 use amount::Amount;
 use records::{Transfer, TransferFlags};
 use rows::TransferCells;
@@ -26,59 +26,35 @@ fn post() -> Transfer
     }
 }
 
-// The cells of that transfer, but for these numbers: user_data_32, timeout, ledger, code, flags,
-// timestamp, at_clock.
-fn cells_with(numbers: [i64; 7]) -> TransferCells {
-    let [
-        user_data_32,
-        timeout,
-        ledger,
-        code,
-        flags,
-        timestamp,
-        at_clock,
-    ] = numbers;
-    TransferCells {
-        id: column(101),
-        debit: column(1),
-        credit: column(2),
-        amount: column(40),
-        pending_id: column(100),
-        user_data_128: [0; 16],
-        user_data_64: [0; 8],
-        user_data_32,
-        timeout,
-        ledger,
-        code,
-        flags,
-        timestamp,
-        at_clock,
-    }
-}
-
 #[test]
 fn one_transfer(rt: HostRuntime) {
-    let cells = cells_with([0, 0, 7, 1, 4, 6, 7]);
-    same(
-        &rt,
-        "to cells",
-        TransferCells::from_transfer(&post()),
-        cells,
-    );
+    let cells = transfer(101, 100, 40, 4, 6);
+    let told = TransferCells::from_transfer(&post());
+    same(&rt, "to cells", told, cells);
     same(&rt, "from cells", cells.to_transfer(), Some(post()));
 }
 
 #[test]
 fn no_transfer_outside_its_widths(rt: HostRuntime) {
-    for (case, numbers) in [
-        ("user_data_32", [4294967296, 0, 7, 1, 4, 6, 7]),
-        ("timeout", [0, -1, 7, 1, 4, 6, 7]),
-        ("ledger", [0, 0, -7, 1, 4, 6, 7]),
-        ("code", [0, 0, 7, 65536, 4, 6, 7]),
-        ("flags", [0, 0, 7, 1, 65540, 6, 7]),
-        ("timestamp", [0, 0, 7, 1, 4, -6, 7]),
-        ("at_clock", [0, 0, 7, 1, 4, 6, -1]),
+    for (case, number) in [
+        ("user_data_32", 4294967296),
+        ("timeout", -1),
+        ("ledger", -7),
+        ("code", 65536),
+        ("flags", 65540),
+        ("timestamp", -6),
+        ("at_clock", -1),
     ] {
-        same(&rt, case, cells_with(numbers).to_transfer(), None);
+        let mut cells = transfer(101, 100, 40, 4, 6);
+        match case {
+            "user_data_32" => cells.user_data_32 = number,
+            "timeout" => cells.timeout = number,
+            "ledger" => cells.ledger = number,
+            "code" => cells.code = number,
+            "flags" => cells.flags = number,
+            "timestamp" => cells.timestamp = number,
+            _ => cells.at_clock = number,
+        }
+        same(&rt, case, cells.to_transfer(), None);
     }
 }

@@ -1,14 +1,7 @@
 use crate::tests::asserting::{debugs, same};
 use sha2::{Digest, Sha256};
-use std::alloc::Global;
 use std::test::Fail;
 use tenants::{Key, digest};
-
-// The digest of a key, in hexadecimal digits.
-fn digits(alloc: Global, text: &str) -> Result<String, Fail> {
-    let key = Key::read(text.as_bytes()).ok_or("refused")?;
-    Ok(hex::encode(alloc, digest(&key).as_slice())?)
-}
 
 // The second is the message of 256 bits among NIST's short messages for SHA-256.
 #[test]
@@ -18,33 +11,31 @@ fn digests_keys(rt: HostRuntime) -> Result<(), Fail> {
     let short = "09fc1accc230a205e4a208e64a8f204291f581a12756392da4b8c0cf5ef02b95";
     let of_short = "4f44c1c7fbebb6f9601829f3897bfd650c56fa07844be76489076356ac1886a4";
     for (text, want) in [(zeros, of_zeros), (short, of_short)] {
-        same(&rt, text, digits(rt.alloc(), text)?.as_str(), want);
+        let key = Key::read(text.as_bytes()).ok_or("refused")?;
+        let digits = hex::encode(rt.alloc(), digest(&key).as_slice())?;
+        same(&rt, text, digits.as_str(), want);
     }
     Ok(())
 }
 
 // A key is known by the digest of its bytes.
-fn known(text: &str) -> Option<[u8; 32]> {
-    let key = Key::read(text.as_bytes())?;
-    Some(digest(&key))
-}
-
 #[test]
-fn reads_either_case(rt: HostRuntime) {
+fn reads_either_case(rt: HostRuntime) -> Result<(), Fail> {
     let mut bytes = [0xab; 32];
     bytes[0] = 0x0f;
     bytes[31] = 0xc9;
-    let want = Some(Sha256::digest(bytes.as_slice()));
     let lower = "0fababababababababababababababababababababababababababababababc9";
-    let key = Key::read(lower.as_bytes());
+    let first = Key::read(lower.as_bytes()).ok_or("refused")?;
     for text in [
         lower,
         "0FABABABABABABABABABABABABABABABABABABABABABABABABABABABABABABC9",
         "0FababABaBAbababababababababABABABababababababababababababababC9",
     ] {
-        same(&rt, text, &Key::read(text.as_bytes()), &key);
-        same(&rt, text, &known(text), &want);
+        let key = Key::read(text.as_bytes()).ok_or("refused")?;
+        same(&rt, text, digest(&key), Sha256::digest(bytes.as_slice()));
+        same(&rt, text, key, first);
     }
+    Ok(())
 }
 
 #[test]

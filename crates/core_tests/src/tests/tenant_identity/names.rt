@@ -2,15 +2,8 @@ use crate::tests::asserting::{debugs, same};
 use std::test::Fail;
 use tenants::TenantName;
 
-fn is_read_back(text: &str) -> bool {
-    match TenantName::read(text) {
-        Some(name) => name.as_str() == text,
-        None => false,
-    }
-}
-
 #[test]
-fn reads_names_back(rt: HostRuntime) {
+fn reads_names_back(rt: HostRuntime) -> Result<(), Fail> {
     for text in [
         "a",
         "Z",
@@ -19,8 +12,10 @@ fn reads_names_back(rt: HostRuntime) {
         "North-2",
         "abcdefghijklmnopqrstuvwxyz-ABCDEFGHIJKLMNOPQRSTUVWXYZ-0123456789",
     ] {
-        same(&rt, text, is_read_back(text), true);
+        let name = TenantName::read(text).ok_or("refused")?;
+        same(&rt, text, name.as_str(), text);
     }
+    Ok(())
 }
 
 #[test]

@@ -1,12 +1,10 @@
-use Rattle.std.proofs.Common.{◌≡◌, [], refl, subst, Some, rules, inl, ◌∙◌}
+use Rattle.std.proofs.Common.{[], refl, rules, inl, ◌∙◌}
 use Rattle.sqlite.specs.Values.{bound}
 use Rattle.records.specs.declared.unavailable.Unavailable.TheVariants.{Size}
 use Rattle.ledger_sql.specs.declared.table_fault.TableFault.{TableFault}
 use Rattle.ledger_sql.specs.declared.table_fault.TableFault.TheVariants.{Unavailable}
-use Rattle.sqlite.specs.Given.{Advances}
-use Rattle.ledger_sql.specs.Entries.{entry_values}
 use Rattle.ledger_sql.proofs.QueryLemmas.{failed_kept, query_follows, quiet}
-use Rattle.ledger_sql.proofs.StreamLemmas.{starts, moves}
+use Rattle.ledger_sql.proofs.StreamLemmas.{starts}
 use Rattle.ledger_sql.proofs.HandLemmas.{handing_begins, handing_moves, handed_all, handed_some, handed_full, never_ok, always_err, handed_off, full_then, wants_then}
 use Rattle.ledger_sql.proofs.entries.hand_out.Goals as goal
 
@@ -29,10 +27,7 @@ rows-init g c =
 
 pub returns-in_err-row-clause-handed : goal.returns-in_err-row-clause-handed
 returns-in_err-row-clause-handed g c =
-    let it = c.rows.invariant.1 in
-    let now = c.next.follows.lender-at-none.conn.now in
-    let moved = c.next.follows.holds-at-none in
-    let here = handed_some g.S.Store g.K.EntrySink.takes c.args.text.now (bound c.args.params.now) c.args.conn.now c.args.sink.now c.rows.rows.conn.now now c.rows.sink it moved.survives g.K.EntrySink.is_full c.rows.invariant.2 c.from_residual-in_err-row.result c.from_residual-in_err-row.ensures.0 in
+    let here = handed_some g.S.Store g.K.EntrySink.takes c.args.text.now (bound c.args.params.now) c.args.conn.now c.args.sink.now c.rows.rows.conn.now c.next.follows.lender-at-none.conn.now c.rows.sink c.rows.invariant.1 c.next.follows.holds-at-none.survives g.K.EntrySink.is_full c.rows.invariant.2 c.from_residual-in_err-row.result c.from_residual-in_err-row.ensures.0 in
     search rules
 
 pub returns-in_default-clause-handed : goal.returns-in_default-clause-handed
@@ -46,10 +41,7 @@ returns-in_default-clause-handed g c =
 
 pub returns-in_err-entry-clause-handed : goal.returns-in_err-entry-clause-handed
 returns-in_err-entry-clause-handed g c =
-    let it = c.rows.invariant.1 in
-    let now = c.next.follows.lender-at-none.conn.now in
-    let moved = c.next.follows.holds-at-none in
-    let here = handed_some g.S.Store g.K.EntrySink.takes c.args.text.now (bound c.args.params.now) c.args.conn.now c.args.sink.now c.rows.rows.conn.now now c.rows.sink it moved.survives g.K.EntrySink.is_full c.rows.invariant.2 c.from_residual-in_err-entry.result c.from_residual-in_err-entry.ensures.0 in
+    let here = handed_some g.S.Store g.K.EntrySink.takes c.args.text.now (bound c.args.params.now) c.args.conn.now c.args.sink.now c.rows.rows.conn.now c.next.follows.lender-at-none.conn.now c.rows.sink c.rows.invariant.1 c.next.follows.holds-at-none.survives g.K.EntrySink.is_full c.rows.invariant.2 c.from_residual-in_err-entry.result c.from_residual-in_err-entry.ensures.0 in
     search rules
 
 pub returns-then-not-entry-clause-handed : goal.returns-then-not-entry-clause-handed
@@ -57,24 +49,18 @@ returns-then-not-entry-clause-handed g c =
     let it = c.rows.invariant.1 in
     let now = c.next.follows.lender-at-none.conn.now in
     let moved = c.next.follows.holds-at-none in
-    let row : c.in-Some.row.now ≡ entry_values c.in_ok-entry.entry = c.in_ok-entry.ensures.values in
     let ok = rw (c.in_ok-row.was, c.in-Some.is) at moved.ok in
     let same = rw c.in_ok-row.was at moved.same in
-    let way = moves g.S.Store c.args.text.now (bound c.args.params.now) c.args.conn.now c.rows.rows.conn.now now _ it.way moved.survives (entry_values c.in_ok-entry.entry) (λ clean. subst (λ r. Advances g.S.Store c.rows.rows.conn.now now (Some r)) row (ok clean)) same in
-    let next = handing_moves g.S.Store g.K.EntrySink.takes c.args.text.now (bound c.args.params.now) c.args.conn.now c.args.sink.now c.rows.rows.conn.now now c.rows.sink c.entry.new.self it c.in_ok-entry.entry c.entry.ensures.taken way in
+    let next = handing_moves g.S.Store g.K.EntrySink.takes c.args.text.now (bound c.args.params.now) c.args.conn.now c.args.sink.now c.rows.rows.conn.now now c.rows.sink it moved.survives c.in-Some.row.now c.in_ok-entry.entry c.in_ok-entry.ensures.values ok same c.entry.new.self c.entry.ensures.taken in
     let here = handed_full g.S.Store g.K.EntrySink.takes c.args.text.now (bound c.args.params.now) c.args.conn.now c.args.sink.now {E = TableFault} g.K.EntrySink.is_full now c.entry.new.self next (full_then c.entry.result (g.K.EntrySink.is_full c.entry.new.self) c.entry.ensures.more (search rules)) in
     search rules
 
 pub rows-preserved : goal.rows-preserved
 rows-preserved g c =
-    let it = c.rows.invariant.1 in
-    let now = c.next.follows.lender-at-none.conn.now in
     let moved = c.next.follows.holds-at-none in
-    let row : c.in-Some.row.now ≡ entry_values c.in_ok-entry.entry = c.in_ok-entry.ensures.values in
     let ok = rw (c.in_ok-row.was, c.in-Some.is) at moved.ok in
     let same = rw c.in_ok-row.was at moved.same in
-    let way = moves g.S.Store c.args.text.now (bound c.args.params.now) c.args.conn.now c.rows.rows.conn.now now _ it.way moved.survives (entry_values c.in_ok-entry.entry) (λ clean. subst (λ r. Advances g.S.Store c.rows.rows.conn.now now (Some r)) row (ok clean)) same in
-    let next = handing_moves g.S.Store g.K.EntrySink.takes c.args.text.now (bound c.args.params.now) c.args.conn.now c.args.sink.now c.rows.rows.conn.now now c.rows.sink c.entry.new.self it c.in_ok-entry.entry c.entry.ensures.taken way in
+    let next = handing_moves g.S.Store g.K.EntrySink.takes c.args.text.now (bound c.args.params.now) c.args.conn.now c.args.sink.now c.rows.rows.conn.now c.next.follows.lender-at-none.conn.now c.rows.sink c.rows.invariant.1 moved.survives c.in-Some.row.now c.in_ok-entry.entry c.in_ok-entry.ensures.values ok same c.entry.new.self c.entry.ensures.taken in
     (moved.same_reference ∙ c.rows.invariant.0, next, wants_then c.entry.result (g.K.EntrySink.is_full c.entry.new.self) c.entry.ensures.more (search rules))
 
 pub returns-clause-handed : goal.returns-clause-handed

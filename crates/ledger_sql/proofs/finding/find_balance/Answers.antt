@@ -3,12 +3,13 @@ use Rattle.amount.specs.Column.{column_of}
 use Rattle.rows.specs.Cells.{balance_cells}
 use Rattle.ledger_sql.specs.Values.{balance_values}
 use Rattle.ledger_sql.proofs.KeyLemmas.{row_read, point_picks}
-use Rattle.ledger_sql.proofs.SelectTexts.{find_balance_text, find_balance_query}
+use Rattle.ledger_sql.proofs.ReadingTexts.{ledger_means}
+use Rattle.ledger_sql.proofs.SelectTexts.{finding}
 use Rattle.ledger_sql.proofs.finding.find_balance.Goals as goal
 
 pub first_row-requires : goal.first_row-requires
-first_row-requires g c = find_balance_query.reads
+first_row-requires g c = finding.balance.reads
 
 pub returns : goal.returns
 unfolding column_of
-returns g c = row_read (λ row. balance_values (balance_cells row)) _ _ find_balance_text _ _ _ (point_picks c.args.tenant (column_of c.args.account) find_balance_text 11 4 find_balance_query.means _ _ _ (search rules)) c.first_row.result c.first_row.ensures.ok c.first_row.ensures.reads c.read_found.result c.read_found.ensures.values c.read_found.ensures.fits
+returns g c = row_read (λ row. balance_values (balance_cells row)) _ _ _ _ _ _ (point_picks c.args.tenant (column_of c.args.account) _ 11 4 (ledger_means finding.balance) _ _ _ (search rules)) c.first_row.result c.first_row.ensures.ok c.first_row.ensures.reads c.read_found.result c.read_found.ensures.values c.read_found.ensures.fits

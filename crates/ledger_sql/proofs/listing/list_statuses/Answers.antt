@@ -3,12 +3,13 @@ use Rattle.ledger_sql.specs.Reading.{status_cmp}
 use Rattle.ledger_sql.specs.Schema.{balance_schema}
 use Rattle.ledger_sql.specs.Values.{status_values}
 use Rattle.ledger_sql.proofs.OwnLemmas.{own_listed, by_id}
-use Rattle.ledger_sql.proofs.OwnTexts.{own_statuses_text, own_statuses_query}
+use Rattle.ledger_sql.proofs.ReadingTexts.{table_means}
+use Rattle.ledger_sql.proofs.OwnTexts.{listing}
 use Rattle.ledger_sql.proofs.listing.list_statuses.Goals as goal
 
 pub all_rows-requires : goal.all_rows-requires
-all_rows-requires g c = own_statuses_query.reads
+all_rows-requires g c = listing.statuses.reads
 
 pub returns : goal.returns
 returns g c =
-    own_listed status_values status_cmp (λ v. v.items) balance_schema c.args.tenant own_statuses_text 13 1 3 _ own_statuses_query.means 1 (λ _ _. refl) (λ a b. by_id a.transfer b.transfer) _ _ _ (search rules) c.all_rows.result c.all_rows.ensures.ok c.all_rows.ensures.reads
+    own_listed status_values status_cmp (λ v. v.items) balance_schema c.args.tenant _ 13 1 3 _ (table_means listing.statuses) 1 (λ _ _. refl) (λ a b. by_id a.transfer b.transfer) _ _ _ (search rules) c.all_rows.result c.all_rows.ensures.ok c.all_rows.ensures.reads

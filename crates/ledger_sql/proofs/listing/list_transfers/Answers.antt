@@ -3,12 +3,13 @@ use Rattle.ledger_sql.specs.Reading.{transfer_cmp}
 use Rattle.ledger_sql.specs.Schema.{list_schema}
 use Rattle.ledger_sql.specs.Values.{transfer_values}
 use Rattle.ledger_sql.proofs.OwnLemmas.{own_listed, by_id}
-use Rattle.ledger_sql.proofs.OwnTexts.{own_transfers_text, own_transfers_query}
+use Rattle.ledger_sql.proofs.ReadingTexts.{table_means}
+use Rattle.ledger_sql.proofs.OwnTexts.{listing}
 use Rattle.ledger_sql.proofs.listing.list_transfers.Goals as goal
 
 pub all_rows-requires : goal.all_rows-requires
-all_rows-requires g c = own_transfers_query.reads
+all_rows-requires g c = listing.transfers.reads
 
 pub returns : goal.returns
 returns g c =
-    own_listed transfer_values transfer_cmp (λ v. v.items) list_schema c.args.tenant own_transfers_text 8 1 14 _ own_transfers_query.means 1 (λ _ _. refl) (λ a b. by_id a.id b.id) _ _ _ (search rules) c.all_rows.result c.all_rows.ensures.ok c.all_rows.ensures.reads
+    own_listed transfer_values transfer_cmp (λ v. v.items) list_schema c.args.tenant _ 8 1 14 _ (table_means listing.transfers) 1 (λ _ _. refl) (λ a b. by_id a.id b.id) _ _ _ (search rules) c.all_rows.result c.all_rows.ensures.ok c.all_rows.ensures.reads

@@ -1,9 +1,8 @@
-use Rattle.std.proofs.Common.{◌≡◌, List, map, Some, refl, sym, subst, ◌∙◌, rules}
+use Rattle.std.proofs.Common.{List, map, refl, sym, subst, ◌∙◌, rules}
 use Rattle.std.specs.Prelude.{All}
 use Rattle.std.proofs.lemmas.List.Elements.{All-nil, All-push}
 use Rattle.sqlite_value.specs.Order.{Row}
 use Rattle.sqlite.specs.Values.{bound}
-use Rattle.sqlite.specs.Given.{Advances}
 use Rattle.ledger_sql.proofs.QueryLemmas.{failed_kept, query_follows, quiet}
 use Rattle.ledger_sql.proofs.StreamLemmas.{IsUnderWay, starts, moves, way_ends, values_more}
 use Rattle.ledger_sql.proofs.query.all_rows.Goals as goal
@@ -30,8 +29,7 @@ rows-preserved g c =
     let ok = rw (c.in_ok-row.was, c.in-Some.is) at moved.ok in
     let same = rw c.in_ok-row.was at moved.same in
     let values = g.T.ReadRow.values in
-    let row : c.in-Some.row.now ≡ values c.in_ok-read_row.field-0 = c.in_ok-read_row.ensures.values in
-    let way = moves g.S.Store c.args.text.now (bound c.args.params.now) c.args.conn.now c.rows.rows.conn.now now _ it moved.survives (values c.in_ok-read_row.field-0) (λ clean. subst (λ r. Advances g.S.Store c.rows.rows.conn.now now (Some r)) row (ok clean)) same in
+    let way = moves g.S.Store c.args.text.now (bound c.args.params.now) c.args.conn.now c.rows.rows.conn.now now _ it moved.survives c.in-Some.row.now (values c.in_ok-read_row.field-0) c.in_ok-read_row.ensures.values ok same in
     let under : List Row → Type 0 = IsUnderWay g.S.Store c.args.text.now (bound c.args.params.now) c.args.conn.now now in
     (moved.same_reference ∙ c.rows.invariant.0, subst (λ items. under (map values items)) (sym c.in_ok-push.ensures.items) (subst under (sym (values_more values c.rows.read.items c.in_ok-read_row.field-0)) way), subst (All g.T.ReadRow.is_storable) (sym c.in_ok-push.ensures.items) (All-push g.T.ReadRow.is_storable c.rows.read.items c.in_ok-read_row.field-0 c.rows.invariant.2 c.in_ok-read_row.ensures.fits))
 

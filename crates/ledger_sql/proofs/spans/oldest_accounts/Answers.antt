@@ -2,12 +2,13 @@ use Rattle.std.proofs.Common.{false, refl, rules}
 use Rattle.sqlite_value.proofs.OrderLemmas.{then-Equal}
 use Rattle.rows.specs.Cells.{account_cells}
 use Rattle.ledger_sql.specs.Values.{account_values}
-use Rattle.ledger_sql.proofs.SpanTexts.{oldest_accounts_text, oldest_accounts_query}
+use Rattle.ledger_sql.proofs.ReadingTexts.{ledger_means}
+use Rattle.ledger_sql.proofs.SpanTexts.{span_accounts}
 use Rattle.ledger_sql.proofs.SpanLemmas.{span_read}
 use Rattle.ledger_sql.proofs.spans.oldest_accounts.Goals as goal
 
 pub in_span-requires : goal.in_span-requires
-in_span-requires g c = oldest_accounts_query.reads
+in_span-requires g c = (span_accounts false).reads
 
 pub returns : goal.returns
-returns g c = span_read 5 9 8 7 (λ _. refl) c.args.tenant c.args.first c.args.last c.args.most (λ row. account_values (account_cells row)) (λ v. v.items) _ oldest_accounts_text false oldest_accounts_query.means (λ x y. then-Equal _) _ _ _ (search rules) c.in_span.result c.in_span.ensures.ok c.in_span.ensures.fits c.in_span.ensures.reads
+returns g c = span_read 5 9 8 7 (λ _. refl) c.args.tenant c.args.first c.args.last c.args.most (λ row. account_values (account_cells row)) (λ v. v.items) _ _ false (ledger_means (span_accounts false)) (λ x y. then-Equal _) _ _ _ (search rules) c.in_span.result c.in_span.ensures.ok c.in_span.ensures.fits c.in_span.ensures.reads

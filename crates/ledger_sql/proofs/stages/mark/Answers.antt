@@ -1,12 +1,5 @@
-use Rattle.std.proofs.Common.{[]}
-use Rattle.ledger_sql.proofs.RunLemmas.{done_err}
-use Rattle.ledger_sql.proofs.StageLemmas.{mark_text}
-use Rattle.ledger_sql.proofs.MarkLemmas.{marked, mark_follows}
+use Rattle.ledger_sql.proofs.MarkLemmas.{marked}
 use Rattle.ledger_sql.proofs.stages.mark.Goals as goal
 
 pub returns : goal.returns
-returns g c = record {
-  ok = λ clean. rw c.done.ensures (marked _ _ c.requires c.execute.ensures.survives c.execute.result clean (c.execute.ensures.runs clean));
-  err = λ clean. rw c.done.ensures (done_err mark_text [] _ _ c.execute.result (c.execute.ensures.runs clean));
-  follows = mark_follows _ _ c.requires c.execute.result c.execute.ensures.runs c.execute.ensures.survives;
-}
+returns g c = rw c.done.ensures (marked _ _ c.requires c.execute.ensures.survives c.execute.result c.execute.ensures.runs)

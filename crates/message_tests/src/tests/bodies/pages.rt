@@ -1,26 +1,13 @@
 //! What the bodies of queries mean, which are refused, and what their pages spell.
-use super::reading::{meant, refuses};
-use super::writing::{SMALL, is_json, items};
+use super::reading::{NO_LIMITS, meant, refuses};
+use super::writing::{PLAIN, SMALL, is_json, items};
 use ledger_http::{Refusal, Route};
-use records::{
-    Account, AccountWithBalances, Balances, Hold, PageFilter, PageFlags, PendingState, QueryFilter,
-    Tags,
-};
+use records::{Hold, PageFilter, PageFlags, PendingState, QueryFilter, Tags};
 use std::test::Fail;
 use wire::{Entries, Outcome, Query, Request};
 
-/// Bodies that ask for no page at all.
-const BAD_PAGES: [&[u8]; 22] = [
-    b"{}",
-    b"[]",
-    b"null",
-    br#"[{"limit":1}]"#,
-    br#"{"limit":0}"#,
-    br#"{"limit":1001}"#,
-    br#"{"limit":4294967297}"#,
-    br#"{"limit":"1"}"#,
-    br#"{"limit":1.0}"#,
-    br#"{"limit":null}"#,
+/// Other bodies that ask for no page at all.
+const BAD_PAGES: [&[u8]; 12] = [
     br#"{"limit":1,"flags":2}"#,
     br#"{"limit":1,"flags":3}"#,
     br#"{"limit":1,"flags":65537}"#,
@@ -133,13 +120,16 @@ fn understands_open_pages(rt: HostRuntime) -> Result<(), Fail> {
 
 #[test]
 fn refuses_bad_queries(rt: HostRuntime) {
-    for route in [Route::QueryAccounts, Route::QueryTransfers] {
-        refuses(&rt, route, &BAD_PAGES, Refusal::BadField);
-        refuses(&rt, route, &BAD_TAGS, Refusal::BadField);
+    for route in [
+        Route::QueryAccounts,
+        Route::QueryTransfers,
+        Route::OpenPending,
+    ] {
+        for bodies in [NO_LIMITS.as_slice(), &BAD_PAGES, &BAD_TAGS] {
+            refuses(&rt, route, bodies, Refusal::BadField);
+        }
     }
-    for bodies in [BAD_PAGES.as_slice(), BAD_TAGS.as_slice(), TAGS.as_slice()] {
-        refuses(&rt, Route::OpenPending, bodies, Refusal::BadField);
-    }
+    refuses(&rt, Route::OpenPending, &TAGS, Refusal::BadField);
 }
 
 #[test]
@@ -156,20 +146,10 @@ fn tells_pages_of_accounts(rt: HostRuntime) -> Result<(), Fail> {
         "38",
         r#"{"accounts":[],"clock":"4","next":"0"}"#,
     )?;
-    let account = AccountWithBalances {
-        account: Account {
-            id: 1,
-            ledger: 7,
-            code: 10,
-            timestamp: 1,
-            ..Account::default()
-        },
-        balances: Balances::ZERO,
-    };
     let outcome = Outcome::Page {
         clock: 4,
         next: 2,
-        entries: Entries::Accounts(items(rt.alloc(), &[account])?),
+        entries: Entries::Accounts(items(rt.alloc(), &[PLAIN])?),
     };
     let body = concat!(
         r#"{"accounts":[{"code":10,"credits_pending":"0","credits_posted":"0","#,

@@ -96,7 +96,8 @@ const BAD_IDS: [&[u8]; 15] = [
     br#"["340282366920938463463374607431768211456"]"#,
 ];
 
-const BAD_FILTERS: [&[u8]; 19] = [
+/// Bodies that ask for no page at all, as their limit is none.
+pub(super) const NO_LIMITS: [&[u8]; 10] = [
     b"{}",
     b"[]",
     b"null",
@@ -107,6 +108,9 @@ const BAD_FILTERS: [&[u8]; 19] = [
     br#"{"limit":"1"}"#,
     br#"{"limit":1.0}"#,
     br#"{"limit":null}"#,
+];
+
+const BAD_FILTERS: [&[u8]; 9] = [
     br#"{"limit":1,"flags":8}"#,
     br#"{"limit":1,"flags":65536}"#,
     br#"{"limit":1,"flags":-1}"#,
@@ -319,6 +323,7 @@ fn refuses_bad_bodies(rt: HostRuntime) {
         refuses(&rt, route, &BAD_IDS, Refusal::BadField);
     }
     for route in [Route::HistoryTransfers, Route::HistoryBalances] {
+        refuses(&rt, route, &NO_LIMITS, Refusal::BadField);
         refuses(&rt, route, &BAD_FILTERS, Refusal::BadField);
     }
 }

@@ -65,27 +65,28 @@ fn tells_results_of_accounts(rt: HostRuntime) -> Result<(), Fail> {
     is_json(&rt, &outcome, "120", body)
 }
 
+/// An account with nothing but what each has.
+pub(super) const PLAIN: AccountWithBalances = AccountWithBalances {
+    account: Account {
+        id: 1,
+        user_data_128: 0,
+        user_data_64: 0,
+        user_data_32: 0,
+        ledger: 7,
+        code: 10,
+        flags: AccountFlags(0),
+        timestamp: 1,
+    },
+    balances: Balances::ZERO,
+};
+
 #[test]
-fn tells_no_accounts(rt: HostRuntime) -> Result<(), Fail> {
+fn tells_accounts(rt: HostRuntime) -> Result<(), Fail> {
     let outcome = Outcome::Accounts {
         clock: 4,
         accounts: items(rt.alloc(), &[])?,
     };
-    is_json(&rt, &outcome, "27", r#"{"accounts":[],"clock":"4"}"#)
-}
-
-#[test]
-fn tells_accounts(rt: HostRuntime) -> Result<(), Fail> {
-    let plain = AccountWithBalances {
-        account: Account {
-            id: 1,
-            ledger: 7,
-            code: 10,
-            timestamp: 1,
-            ..Account::default()
-        },
-        balances: Balances::ZERO,
-    };
+    is_json(&rt, &outcome, "27", r#"{"accounts":[],"clock":"4"}"#)?;
     let full = AccountWithBalances {
         account: Account {
             id: u128::MAX,
@@ -101,7 +102,7 @@ fn tells_accounts(rt: HostRuntime) -> Result<(), Fail> {
     };
     let outcome = Outcome::Accounts {
         clock: 4,
-        accounts: items(rt.alloc(), &[plain, full])?,
+        accounts: items(rt.alloc(), &[PLAIN, full])?,
     };
     let body = concat!(
         r#"{"accounts":[{"code":10,"credits_pending":"0","credits_posted":"0","#,
@@ -231,35 +232,26 @@ fn tells_refusals(rt: HostRuntime) -> Result<(), Fail> {
 #[test]
 fn writes_bodies_alone(rt: HostRuntime) -> Result<(), Fail> {
     let refused = refusal_text(rt.alloc(), "body_not_json")?;
-    is_text(&rt, &refused, r#"{"error":"body_not_json"}"#);
+    let wanted = r#"{"error":"body_not_json"}"#;
+    assert_eq!(rt; refused.as_slice(), wanted.as_bytes());
     let exists = EventResult {
         result: TransferResult::Exists,
         timestamp: 4,
     };
+    let told = batch_text_transfers(rt.alloc(), 4, &[exists])?;
     let wanted = r#"{"clock":"4","results":[{"number":18,"result":"exists","timestamp":"4"}]}"#;
-    is_text(
-        &rt,
-        &batch_text_transfers(rt.alloc(), 4, &[exists])?,
-        wanted,
-    );
+    assert_eq!(rt; told.as_slice(), wanted.as_bytes());
     let refused = EventResult {
         result: AccountResult::IdMustNotBeZero,
         timestamp: 1,
     };
+    let told = batch_text_accounts(rt.alloc(), 1, &[refused])?;
     let wanted = concat!(
         r#"{"clock":"1","results":"#,
         r#"[{"number":5,"result":"id_must_not_be_zero","timestamp":"1"}]}"#
     );
-    is_text(
-        &rt,
-        &batch_text_accounts(rt.alloc(), 1, &[refused])?,
-        wanted,
-    );
+    assert_eq!(rt; told.as_slice(), wanted.as_bytes());
     Ok(())
-}
-
-fn is_text(rt: &impl Abort, text: &[u8], wanted: &str) {
-    assert_eq!(rt; text, wanted.as_bytes());
 }
 
 pub(super) fn items<T: Copy>(alloc: Global, values: &[T]) -> Result<Items<T>, AllocError> {

@@ -173,32 +173,24 @@ fn first_of(rt: &impl AllocGlobal, bytes: &[u8], piece: usize) -> Result<(Next, 
     Ok((open, inbox.next()))
 }
 
-// Whether what is refused while it is read is told so, as soon as it can be, and all else is whole.
-fn is_told(rt: &impl AllocGlobal, bytes: &[u8], refusal: Refusal) -> Result<bool, AllocError> {
-    let expected = if refusal == Refusal::Truncated {
-        (Next::Wanting, Next::Refused(refusal))
-    } else if is_of_reading(refusal) {
-        (Next::Refused(refusal), Next::Refused(refusal))
-    } else {
-        (Next::Whole(bytes.len()), Next::Whole(bytes.len()))
-    };
-    Ok(first_of(rt, bytes, 1)? == expected && first_of(rt, bytes, 4096)? == expected)
-}
-
-// The first message that is not told as it has to be.
-fn wrong_message(rt: &impl AllocGlobal) -> Result<Option<String>, AllocError> {
-    for (line, headers, body, refusal) in refused() {
-        let text = message(rt, line, headers, body)?;
-        if !is_told(rt, text.as_bytes(), *refusal)? {
-            return Ok(Some(text));
-        }
-    }
-    Ok(None)
-}
-
+// What is refused while it is read is told so, as soon as it can be, and all else is whole.
 #[test]
 fn refuses_what_is_no_message(rt: HostRuntime) -> Result<(), AllocError> {
-    assert_eq!(rt; wrong_message(&rt)?, None);
+    for (line, headers, body, refusal) in refused() {
+        let text = message(&rt, line, headers, body)?;
+        let size = text.len();
+        let (open, ended) = if *refusal == Refusal::Truncated {
+            (Next::Wanting, Next::Refused(*refusal))
+        } else if is_of_reading(*refusal) {
+            (Next::Refused(*refusal), Next::Refused(*refusal))
+        } else {
+            (Next::Whole(size), Next::Whole(size))
+        };
+        for piece in [1, 4096] {
+            let told = first_of(&rt, text.as_bytes(), piece)?;
+            assert!(rt; told == (open, ended), "{text}");
+        }
+    }
     Ok(())
 }
 

@@ -3,20 +3,13 @@ use ledger_http::{Early, Refusal, Route, asked};
 use std::alloc::AllocError;
 use tenants::Key;
 
-// The first message that is not refused as it has to be.
-fn wrong_refusal(rt: &impl AllocGlobal) -> Result<Option<String>, AllocError> {
-    for (line, headers, body, refusal) in refused() {
-        let text = message(rt, line, headers, body)?;
-        if refusal_of(rt, text.as_bytes()) != Some(*refusal) {
-            return Ok(Some(text));
-        }
-    }
-    Ok(None)
-}
-
 #[test]
 fn refuses_in_order(rt: HostRuntime) -> Result<(), AllocError> {
-    assert_eq!(rt; wrong_refusal(&rt)?, None);
+    for (line, headers, body, refusal) in refused() {
+        let text = message(&rt, line, headers, body)?;
+        let told = refusal_of(&rt, text.as_bytes());
+        assert!(rt; told == Some(*refusal), "{text}");
+    }
     Ok(())
 }
 
@@ -69,27 +62,19 @@ const LOWER_KEY: &[u8] = b"0fabababababababababababababababababababababababababa
 
 const HEADERS: &str = "a: é\r\nCONTENT-LENGTH:\t2 \r\n";
 
-// Whether a request is read as what it is, whatever is behind its body.
-fn is_read(
-    rt: &impl AllocGlobal,
-    line: &str,
-    route: Route,
-    account: &str,
-) -> Result<bool, AllocError> {
-    let headers = format!(in rt.alloc(); "{HEADERS}{KEY}")?;
-    let text = message(rt, line, &headers, "[]GET")?;
-    let Ok(request) = asked(rt.alloc(), text.as_bytes()) else {
-        return Ok(false);
-    };
-    let is_key = Key::read(LOWER_KEY).is_some_and(|key| key == request.key);
-    let is_account = request.account.as_bytes() == account.as_bytes();
-    Ok(request.route == route && is_account && is_key && request.body == b"[]".as_slice())
-}
-
+// A request is read as what it is, whatever is behind its body.
 #[test]
 fn reads_requests(rt: HostRuntime) -> Result<(), AllocError> {
+    let key = Key::read(LOWER_KEY).expect(&rt, "a key");
+    let headers = format!(in rt.alloc(); "{HEADERS}{KEY}")?;
     for (line, route, account) in REQUESTS {
-        assert!(rt; is_read(&rt, line, route, account)?, "{line}");
+        let text = message(&rt, line, &headers, "[]GET")?;
+        let Ok(request) = asked(rt.alloc(), text.as_bytes()) else {
+            panic!(rt; "refused: {line}");
+        };
+        assert!(rt; request.route == route && request.key == key, "{line}");
+        assert!(rt; request.account.as_bytes() == account.as_bytes(), "{line}");
+        assert!(rt; request.body == b"[]".as_slice(), "{line}");
     }
     Ok(())
 }
@@ -103,24 +88,14 @@ const KEYLESS_HEADERS: [&str; 5] = [
     "content-length: 2\r\n",
 ];
 
-fn is_told(
-    rt: &impl AllocGlobal,
-    line: &str,
-    headers: &str,
-    early: Early,
-) -> Result<bool, AllocError> {
-    let text = message(rt, line, headers, "[]GET /statement/1 HTTP/1.1\r\n\r\n")?;
-    Ok(matches!(asked(rt.alloc(), text.as_bytes()), Err(told) if told == early))
-}
-
 #[test]
 fn tells_the_page_and_health_to_everybody(rt: HostRuntime) -> Result<(), AllocError> {
     for headers in KEYLESS_HEADERS {
-        assert!(rt; is_told(&rt, "GET /", headers, Early::Page)?, "{headers}");
-        assert!(rt;
-            is_told(&rt, "GET /health", headers, Early::Health)?,
-            "{headers}"
-        );
+        for (line, early) in [("GET /", Early::Page), ("GET /health", Early::Health)] {
+            let text = message(&rt, line, headers, "[]GET /statement/1 HTTP/1.1\r\n\r\n")?;
+            let told = asked(rt.alloc(), text.as_bytes());
+            assert!(rt; matches!(told, Err(told) if told == early), "{text}");
+        }
     }
     Ok(())
 }
@@ -129,8 +104,7 @@ fn tells_the_page_and_health_to_everybody(rt: HostRuntime) -> Result<(), AllocEr
 fn reads_a_get_without_length(rt: HostRuntime) -> Result<(), AllocError> {
     let text = message(&rt, "GET /statement/7", KEY, "[]")?;
     let Ok(request) = asked(rt.alloc(), text.as_bytes()) else {
-        assert!(rt; false);
-        return Ok(());
+        panic!(rt; "refused");
     };
     assert!(rt; request.body.is_empty());
     assert!(rt; request.account.as_bytes() == b"7".as_slice());

@@ -1,4 +1,4 @@
-use super::sample::Narrow;
+use failing_streams::Narrow;
 use ledger_http::{ContentType, Early, Refusal, Reply, Text, put_chunk, write_reply};
 use records::Streamed;
 use std::alloc::AllocError;
@@ -120,10 +120,14 @@ fn tells_early_refusals(rt: HostRuntime) {
 
 // The reply with room for so many bytes is written as far as it goes, and told so.
 fn is_written(rt: &impl AllocGlobal, reply: &Reply, room: usize) -> bool {
-    let taken = Vec::new(rt.alloc());
-    let mut writer = Streamed::new(Narrow { taken, room });
+    let mut writer = Streamed::new(Narrow {
+        taken: Vec::new(rt.alloc()),
+        piece: 3,
+        room,
+        fails: true,
+    });
     let result = write_reply(&mut writer, reply);
-    let Narrow { taken, room: _ } = writer.into_inner();
+    let Narrow { taken, .. } = writer.into_inner();
     let bytes = reply.bytes();
     let fits = bytes.len() <= room;
     result.is_ok() == fits && taken.as_slice() == &bytes[..room.min(bytes.len())]

@@ -1,59 +1,15 @@
-//! Readers and writers that are slow and fail, and messages that are refused.
+//! Readers that are slow and fail, and messages that are refused.
 ghost use Rattle.std.specs.Prelude.{◌≡◌, false};
 ghost use Rattle.records.specs.Streamed.{stream_failed};
 
+use failing_streams::Pieces;
 use ledger_http::{Early, Message, Refusal, asked, read_message};
 use records::Streamed;
 use std::alloc::AllocError;
-use std::io::{self, ErrorKind, Read, Write};
 
 /// A good key.
 pub(crate) const KEY: &str =
     "x-ledger-key: 0FababababababababababababababababababababababababababababababC9\r\n";
-
-/// Gives at most `piece` bytes a call, and fails behind the last one if it is to.
-#[derive(Drop)]
-pub(crate) struct Pieces<'a> {
-    pub(crate) bytes: &'a [u8],
-    pub(crate) piece: usize,
-    pub(crate) fails: bool,
-}
-
-impl Read for Pieces<'_> {
-    fn read(&mut self, buf: &mut [u8]) -> io::Result<usize> {
-        if self.bytes.is_empty() && self.fails {
-            return Err(ErrorKind::ConnectionReset.into());
-        }
-        let count = buf.len().min(self.piece).min(self.bytes.len());
-        let (front, rest) = self.bytes.split_at(count);
-        buf[..count].copy_from_slice(front);
-        self.bytes = rest;
-        Ok(count)
-    }
-}
-
-/// Takes at most three bytes a call, and fails once it has taken `room` bytes.
-#[derive(Drop)]
-pub(crate) struct Narrow {
-    pub(crate) taken: Vec<u8>,
-    pub(crate) room: usize,
-}
-
-impl Write for Narrow {
-    fn write(&mut self, buf: &[u8]) -> io::Result<usize> {
-        let count = buf.len().min(3).min(self.room);
-        if count == 0 {
-            return Err(ErrorKind::BrokenPipe.into());
-        }
-        self.taken.extend_from_slice(&buf[..count])?;
-        self.room -= count;
-        Ok(count)
-    }
-
-    fn flush(&mut self) -> io::Result<()> {
-        Ok(())
-    }
-}
 
 /// A request line without its version, the headers behind it, the body, and why they are refused.
 pub(crate) type Refused = (&'static str, &'static str, &'static str, Refusal);

@@ -226,15 +226,12 @@ fn lines_read() -> &'static [(&'static str, Command<'static>)] {
     &READ
 }
 
-fn is_read_as(rt: &HostRuntime, line: &str, want: &Command<'_>) -> Result<bool, Fail> {
-    let words: Vec<&str> = line.split_whitespace().collect(rt.alloc())?;
-    Ok(command(rt.alloc(), words.as_slice())? == *want)
-}
-
 #[test]
 fn reads_commands(rt: HostRuntime) -> Result<(), Fail> {
     for (line, want) in lines_read() {
-        assert!(rt; is_read_as(&rt, line, want)?, "of {line}");
+        let words: Vec<&str> = line.split_whitespace().collect(rt.alloc())?;
+        let told = command(rt.alloc(), words.as_slice())?;
+        assert!(rt; told == *want, "of {line}");
     }
     Ok(())
 }

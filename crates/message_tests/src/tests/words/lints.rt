@@ -87,17 +87,12 @@ const BAD: [(&str, &str, &str); 20] = [
     ),
 ];
 
-// Whether a body is refused by this line.
-fn is_refused(rt: &HostRuntime, path: &str, body: &str, line: &str) -> Result<bool, Fail> {
-    let (status, told) = linted(rt, path, body)?;
-    let want = format!(in rt.alloc(); "{line}\n")?;
-    Ok(status == 1 && told.as_slice() == want.as_bytes())
-}
-
 #[test]
 fn tells_what_is_refused(rt: HostRuntime) -> Result<(), Fail> {
     for (path, body, line) in BAD {
-        assert!(rt; is_refused(&rt, path, body, line)?, "{body}");
+        let (status, told) = linted(&rt, path, body)?;
+        let want = format!(in rt.alloc(); "{line}\n")?;
+        assert_eq!(rt; (status, told.as_slice()), (1, want.as_bytes()), "{body}");
     }
     Ok(())
 }

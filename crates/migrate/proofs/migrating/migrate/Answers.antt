@@ -1,6 +1,5 @@
 use Rattle.std.proofs.Common.{refl, sym, arith, rules}
-use Rattle.migrate.specs.Ledgers.{state_of}
-use Rattle.migrate.proofs.LedgerLemmas.{no_fault, survives_itself}
+use Rattle.migrate.proofs.LedgerLemmas.{leaves_unmoved, no_fault}
 use Rattle.migrate.proofs.migrating.migrate.Goals as goal
 
 pub returns-then-to-ledger-clause-tells : goal.returns-then-to-ledger-clause-tells
@@ -36,14 +35,7 @@ returns-then-to-ledger-clause-migrates g c = record {
   damaged = λ _. tt;
   same = λ _. refl;
   stays = refl;
-  leaves = record {
-    honest = λ clean. clean;
-    lived = λ live. live;
-    is_open = λ clean ready _. c.requires.migratable.is_open ready clean;
-    ready = λ _. refl;
-    disk = search rules;
-    finds = survives_itself (state_of c.args.ledger.now) _;
-  };
+  leaves = leaves_unmoved g.D.Disk c.args.to c.args.ledger.now _ c.requires.migratable (search rules);
 }
 
 pub returns-then-to-ledger-2-clause-migrates : goal.returns-then-to-ledger-2-clause-migrates
@@ -53,14 +45,7 @@ returns-then-to-ledger-2-clause-migrates g c = record {
   damaged = λ _. tt;
   same = λ _. tt;
   stays = tt;
-  leaves = record {
-    honest = λ clean. clean;
-    lived = λ live. live;
-    is_open = λ clean ready _. c.requires.migratable.is_open ready clean;
-    ready = λ _. refl;
-    disk = λ told. absurd (no_fault told);
-    finds = survives_itself (state_of c.args.ledger.now) _;
-  };
+  leaves = leaves_unmoved g.D.Disk c.args.to c.args.ledger.now _ c.requires.migratable (λ told. no_fault told);
 }
 
 pub returns-clause-tells : goal.returns-clause-tells

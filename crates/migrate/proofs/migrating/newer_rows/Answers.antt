@@ -3,10 +3,9 @@ use Rattle.std.proofs.lemmas.Result.{err_from_is_err_and}
 use Rattle.rows.specs.declared.all_rows.TenantOfDigest.{TenantOfDigest}
 use Rattle.rows.specs.TypedRows.{lists_of}
 use Rattle.audit.specs.Sound.{AreSound}
-use Rattle.sqlite.specs.Held.{state}
 use Rattle.migrate.specs.Upgrading.{older_schema}
 use Rattle.migrate.specs.UpgradingLaws.{older_quiet}
-use Rattle.migrate.proofs.FaultLemmas.{no_newer_by_audit, damage_by_audit}
+use Rattle.migrate.proofs.FaultLemmas.{refused_by_audit}
 use Rattle.migrate.proofs.LedgerLemmas.{no_fault}
 use Rattle.migrate.proofs.OlderLemmas.{older_tables}
 use Rattle.migrate.proofs.migrating.newer_rows.Goals as goal
@@ -21,15 +20,9 @@ rows_in-requires g c clean =
 
 pub returns-in_err-check-clause-audited : goal.returns-in_err-check-clause-audited
 returns-in_err-check-clause-audited g c =
-    let told = c.from_residual-in_err-check.result in
-    let p = err_from_is_err_and told c.from_residual-in_err-check.ensures.1 in
-    record {
-      no_newer = no_newer_by_audit told _ (p.1 ∙ ap Err p.2);
-      damaged = λ clean.
-          damage_by_audit told c.args.version _ _ c.in_ok-older.older (state g.S.Store c.args.conn.now).now.trees (p.1 ∙ ap Err p.2)
-          c.in_ok-older.ensures.version c.in_err-check.ensures.damaged (c.in_ok-older.ensures.tells.value clean);
-      sound = search rules;
-    }
+    let p = err_from_is_err_and c.from_residual-in_err-check.result c.from_residual-in_err-check.ensures.1 in
+    refused_by_audit _ _ c.in_ok-older.older (p.1 ∙ ap Err p.2) c.in_ok-older.ensures.version
+    c.in_err-check.ensures.damaged c.in_ok-older.ensures.tells.value
 
 pub returns-in_err-check-clause-reads : goal.returns-in_err-check-clause-reads
 returns-in_err-check-clause-reads g c = record {

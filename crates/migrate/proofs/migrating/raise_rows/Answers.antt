@@ -5,7 +5,7 @@ use Rattle.sqlite.specs.Held.{state}
 use Rattle.sqlite.specs.State.{HasCleanDisk}
 use Rattle.migrate.specs.Upgrading.{IsRaised, older_schema}
 use Rattle.migrate.specs.UpgradingLaws.{still_older}
-use Rattle.migrate.proofs.FaultLemmas.{no_newer_by_upgrade, undamaged_by_upgrade}
+use Rattle.migrate.proofs.FaultLemmas.{refused_by_upgrade}
 use Rattle.migrate.proofs.LedgerLemmas.{no_fault, survives_change, survives_read, then_same, told_disk}
 use Rattle.migrate.proofs.migrating.raise_rows.Goals as goal
 
@@ -51,13 +51,8 @@ returns-clause-whole g c =
 
 pub returns-in_err-due-clause-audited : goal.returns-in_err-due-clause-audited
 returns-in_err-due-clause-audited g c =
-    let told = c.from_residual-in_err-due.result in
-    let p = err_from_is_err_and told c.from_residual-in_err-due.ensures.1 in
-    record {
-      no_newer = no_newer_by_upgrade told _ (p.1 ∙ ap Err p.2);
-      damaged = λ clean. undamaged_by_upgrade told _ _ (p.1 ∙ ap Err p.2);
-      sound = search rules;
-    }
+    let p = err_from_is_err_and c.from_residual-in_err-due.result c.from_residual-in_err-due.ensures.1 in
+    refused_by_upgrade _ (p.1 ∙ ap Err p.2)
 
 pub returns-in_err-due-clause-whole : goal.returns-in_err-due-clause-whole
 returns-in_err-due-clause-whole g c =

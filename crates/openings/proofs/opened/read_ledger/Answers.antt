@@ -1,11 +1,12 @@
 use Rattle.std.proofs.Common.{Err, refl, sym, subst, ap, ◌∙◌, rules}
 use Rattle.std.proofs.lemmas.Bool.{both_ways}
-use Rattle.std.proofs.lemmas.Result.{err_from_is_err_and, IfErr-weaker}
+use Rattle.std.proofs.lemmas.Result.{err_from_is_err_and}
 use Rattle.sqlite_schema.specs.declared.schema.Schema.{Schema}
 use Rattle.sqlite.specs.Held.{state}
+use Rattle.openings.specs.CallLaws.{passes_on}
 use Rattle.openings.specs.Opened.{HasNames}
-use Rattle.openings.specs.Told.{LacksTables, No_name, Warrants}
-use Rattle.openings.proofs.ToldLemmas.{told_by_want, told_tables}
+use Rattle.openings.specs.Told.{LacksTables, No_name}
+use Rattle.openings.proofs.ToldLemmas.{told_tables}
 use Rattle.ledger_sql.specs.Effects.{IsLedger}
 use Rattle.openings.proofs.WholeLemmas.{has_tables}
 use Rattle.openings.proofs.opened.read_ledger.Goals as goal
@@ -31,14 +32,7 @@ returns-in-Some-clause-examines g c = record {
 pub returns-in_err-rows-clause-examines : goal.returns-in_err-rows-clause-examines
 returns-in_err-rows-clause-examines g c =
     let p = err_from_is_err_and c.from_residual.result c.from_residual.ensures.1 in
-    let db = (state g.S.Store c.args.conn.now).now in
-    record {
-      finds = search rules;
-      told = λ clean.
-          IfErr-weaker c.from_residual.result (λ told. Warrants told db) _ (λ told tells current. tells)
-          (told_by_want c.from_residual.result _ db (p.1 ∙ ap Err p.2));
-      looks = search rules;
-    }
+    passes_on (p.1 ∙ ap Err p.2) (search rules) (λ clean current. tt)
 
 pub returns-then-not-has_names-clause-examines : goal.returns-then-not-has_names-clause-examines
 returns-then-not-has_names-clause-examines g c =

@@ -4,6 +4,7 @@ use Rattle.sqlite_schema.specs.declared.schema.Schema.{Schema}
 use Rattle.sqlite.specs.Held.{state}
 use Rattle.ledger_sql.specs.Effects.{StartsAs}
 use Rattle.ledger_sql.specs.Schema.{after_schema}
+use Rattle.openings.specs.CallLaws.{passes_on}
 use Rattle.openings.specs.Told.{LacksVersion, LacksVersions}
 use Rattle.openings.proofs.OpenedLemmas.{named_version}
 use Rattle.openings.proofs.ToldLemmas.{told_by_call, told_version, told_versions}
@@ -44,11 +45,7 @@ returns-in-Some-clause-examines g c = record {
 pub returns-in_err-versions-clause-examines : goal.returns-in_err-versions-clause-examines
 returns-in_err-versions-clause-examines g c =
     let p = err_from_is_err_and c.from_residual.result c.from_residual.ensures.1 in
-    record {
-      finds = search rules;
-      told = λ clean. told_by_call c.from_residual.result _ (state g.S.Store c.args.conn.now).now (p.1 ∙ ap Err p.2);
-      looks = search rules;
-    }
+    passes_on (p.1 ∙ ap Err p.2) (search rules) (λ clean. told_by_call _ _)
 
 pub returns-clause-known : goal.returns-clause-known
 returns-clause-known g c =

@@ -18,14 +18,11 @@ returns-in-Joined g c = record {
 
 pub returns-in-Gathered : goal.returns-in-Gathered
 returns-in-Gathered g c = record {
-  serves =
-      let gathered = c.args.gathered.now.numbers.items in
-      let gathered_now = c.place.new.self.numbers.items in
-      rw c.in-Ready.is
+  serves = rw c.in-Ready.is
       (as_told (Ready c.in-Ready.number)
       (unchanged c.place.ensures.same
-      (among_first c.in-Ready.number gathered gathered_now (c.in-Gathered.ensures.gathers.gathered refl)
-      c.place.ensures.gathers.kept)));
+      (among_first c.in-Ready.number c.args.gathered.now.numbers.items c.place.new.self.numbers.items
+      (c.in-Gathered.ensures.gathers.gathered refl) c.place.ensures.gathers.kept)));
   few = omega arith;
 }
 

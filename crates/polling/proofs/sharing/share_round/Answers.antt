@@ -3,7 +3,7 @@ use Rattle.service.specs.declared.turns.Message.{Message}
 use Rattle.service.specs.Turns.{TakeTurns}
 use Rattle.polling.specs.Seating.{seats_in}
 use Rattle.polling.proofs.CopyLemmas.{copied_as_before, only_copied, taken_back, kept_and_put}
-use Rattle.polling.proofs.CopyLemmas.{lost_and_told, not_lost, memory_differs, size_differs}
+use Rattle.polling.proofs.CopyLemmas.{disk_stands, lost_and_told, not_lost}
 use Rattle.polling.proofs.sharing.share_round.Goals as goal
 
 pub returns-then-len-lt2 : goal.returns-then-len-lt2
@@ -87,26 +87,6 @@ returns-in-Disk g c = record {
       let put = c.tell_all.ensures.few in let copied = c.copy_all-round.ensures.few in omega (arith, put, copied);
 }
 
-pub returns-in-Memory : goal.returns-in-Memory
-returns-in-Memory g c = record {
-  serves =
-      λ peers next. taken_back g.L.Ledgers.means g.C.Moments.gives g.H.Steward.renews g.H.Steward.waits g.P.Peers.does
-      c.args.ledgers.now c.in_round-replies.new.self c.args.moments.now c.copy_all-round.new.moments
-      peers (seats_in c.args.clients.now) (seats_in c.copy_all-round.new.clients) next
-      c.copy_all-round.result.messages.items c.copy_all-round.ensures.same
-      c.copy_all-round.ensures.gathered.given
-      (g.met.L.Ledgers.lived _ _ c.in_round-replies.ensures.follows)
-      (rw c.in-Err.is at c.in_round-replies.ensures.same)
-      (λ found may.
-      let live =
-      c.in_round-replies.ensures.finds.live
-      (not_lost _ _ _ c.in-Err.is c.in-Memory.is memory_differs)
-      found may in
-      (live, c.is_settled.ensures live found may));
-  few =
-      omega arith;
-}
-
 pub returns : goal.returns
 returns g c = record {
   serves =
@@ -119,9 +99,7 @@ returns g c = record {
       (rw c.in-Err.is at c.in_round-replies.ensures.same)
       (λ found may.
       let live =
-      c.in_round-replies.ensures.finds.live
-      (not_lost _ _ _ c.in-Err.is c.in-Size.is size_differs)
-      found may in
+      c.in_round-replies.ensures.finds.live (not_lost _ _ c.in-Err.is (disk_stands _ c.in-Memory.is)) found may in
       (live, c.is_settled.ensures live found may));
   few =
       omega arith;

@@ -1,8 +1,7 @@
-use Rattle.std.proofs.Common.{refl, inl, inr, subst, List, ℕ, arith}
+use Rattle.std.proofs.Common.{refl, inl, inr, subst, List, ℕ}
 use Rattle.chain.specs.Ledgers.{Finds}
-use Rattle.ledger_http.specs.Message.{head_size, refused_size}
 use Rattle.service.specs.Responds.{Responds, RefusesEarly, IsQuestionAnswered, IsLeftBy}
-use Rattle.service.proofs.ConnectionRuns.{stays_ended}
+use Rattle.service.proofs.ConnectionRuns.{cut_off_behind, stays_ended}
 use Rattle.service.proofs.exchanging.exchange.Goals as goal
 
 pub returns-in-Whole-clause-exchanges : goal.returns-in-Whole-clause-exchanges
@@ -40,30 +39,24 @@ returns-in-End-clause-exchanges g c =
     (λ unread known. (first unread known).0, stays_ended _ _ first, refl, refl)
 
 pub returns-in-Refused-clause-exchanges : goal.returns-in-Refused-clause-exchanges
-returns-in-Refused-clause-exchanges g c =
-    let first = rw c.in-Refused.is at c.in_ok-message.ensures.first in
-    record {
-      open_before = refl;
-      by = inr (inl (record {
-        refusal = c.in-Refused.refusal;
-        told = c.last.ensures.reply;
-        early = rw c.in-Refused.is at c.in_ok-message.ensures.reading;
-        first = λ unread known. (first unread known).0;
-        taken = λ unread known.
-            (refused_size unread c.in-Refused.refusal, omega arith, (first unread known).1);
-        cut = record { ledgers = refl; moments = refl; ends = c.last.ensures.ends };
-      }));
-    }
+returns-in-Refused-clause-exchanges g c = record {
+  open_before = refl;
+  by = inr (inl (record {
+    refusal = c.in-Refused.refusal;
+    told = c.last.ensures.reply;
+    early = rw c.in-Refused.is at c.in_ok-message.ensures.reading;
+    cut =
+        cut_off_behind _ _ _ _ _ _ _ (rw c.in-Refused.is at c.in_ok-message.ensures.first) c.last.ensures.ends;
+  }));
+}
 
 pub returns-in-NoMemory-clause-exchanges : goal.returns-in-NoMemory-clause-exchanges
-returns-in-NoMemory-clause-exchanges g c =
-    let first = rw c.in-NoMemory.is at c.in_ok-message.ensures.first in
-    record {
-      open_before = refl;
-      by = inr (inr (record {
-        told = c.last-in-NoMemory.ensures.reply;
-        first = λ unread known. (first unread known).0;
-        taken = λ unread known. (head_size unread, omega arith, (first unread known).1);
-        cut = record { ledgers = refl; moments = refl; ends = c.last-in-NoMemory.ensures.ends };
-      }));
-    }
+returns-in-NoMemory-clause-exchanges g c = record {
+  open_before = refl;
+  by = inr (inr (record {
+    told = c.last-in-NoMemory.ensures.reply;
+    cut =
+        cut_off_behind _ _ _ _ _ _ _ (rw c.in-NoMemory.is at c.in_ok-message.ensures.first)
+        c.last-in-NoMemory.ensures.ends;
+  }));
+}

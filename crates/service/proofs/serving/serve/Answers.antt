@@ -21,8 +21,7 @@ returns-in-Ok-None-clause-served g c =
           (g.R.Source.left c.loop-replies.reader) c.loop-replies.moments true;
       replied =
           c.loop-replies.invariant.replied;
-      ended = inr (inr end.0);
-      unread_left = end.1;
+      why = record { ended = inr (inr end.0); unread_left = end.1 };
       ledgers_left = end.2;
       moments_left = end.3;
     }
@@ -33,7 +32,7 @@ returns-in-Err-clause-served g c = record {
       (g.R.Source.left c.loop-replies.reader) c.loop-replies.moments true;
   replied =
       c.loop-replies.invariant.replied;
-  broken = c.in-Err.ensures.broken;
+  why = c.in-Err.ensures.broken;
   ledgers_left = c.in-Err.ensures.same;
   moments_left = c.in-Err.ensures.unasked;
 }
@@ -66,8 +65,10 @@ returns-then-not-goes_on-clause-served g c = record {
       (rw c.in-Ok-Some.field-0-is at (c.in-Ok-Some.ensures.exchanges))
       (on_ok_is c.write.result _ (sym c.is_err.ensures.value ∙ c.if-is_err.false)
       c.write.ensures.ok);
-  ended = inr (inl c.if-not-goes_on.true);
-  unread_left = Keeps-refl (g.R.Source.left c.exchange.new.reader);
+  why = record {
+    ended = inr (inl c.if-not-goes_on.true);
+    unread_left = Keeps-refl (g.R.Source.left c.exchange.new.reader);
+  };
   ledgers_left = refl;
   moments_left = refl;
 }
@@ -108,8 +109,10 @@ returns-clause-served g c = record {
   last = connection c.loop-replies.ledgers
       (g.R.Source.left c.loop-replies.reader) c.loop-replies.moments true;
   replied = c.loop-replies.invariant.replied;
-  ended = inl (omega (arith, c.loop-replies.invariant.few));
-  unread_left = Keeps-refl (g.R.Source.left c.loop-replies.reader);
+  why = record {
+    ended = inl (omega (arith, c.loop-replies.invariant.few));
+    unread_left = Keeps-refl (g.R.Source.left c.loop-replies.reader);
+  };
   ledgers_left = refl;
   moments_left = refl;
 }

@@ -2,7 +2,7 @@ use Rattle.std.proofs.Common.{◌≡◌, ◌++◌, Some}
 use Rattle.ledger_http.specs.ReplyText.{reply_text}
 use Rattle.parts.specs.Parts.{chunks_left}
 use Rattle.service.specs.Begun.{reply_with}
-use Rattle.service.proofs.FinishLemmas.{HasRead}
+use Rattle.chain.proofs.StatementPieces.{HasRead}
 use Rattle.service.proofs.statements.finish_statement.Given as goal
 
 -- The parts so far were read, and with what is left they are the whole reply.

@@ -7,10 +7,9 @@ use super::statements::{ENTRIES, filled, whole};
 use crate::tests::asserting::same;
 use crate::tests::messages::{BATCH, FIRST, SECOND, UNAVAILABLE};
 use chain::ReadFault;
-use parts::{Rest, row_of};
+use parts::{Rest, read_piece, row_of};
 use records::{Order, Span, Unavailable};
 use std::alloc::Global;
-use std::process::Abort;
 use std::test::Fail;
 use tenants::{Key, digest};
 
@@ -42,29 +41,11 @@ fn read_on(firms: &mut FrailFirms, told: &mut Vec<u8>, rest: Option<Rest>) -> Re
         let Some(left) = rest else {
             return Ok(many);
         };
-        let part = firms.part(&left).map_err(|_| "no part")?;
+        let part = firms.part(&left)?;
         told.extend_from_slice(part.chunks.as_slice())?;
         rest = part.rest;
     }
     Err("no end".into())
-}
-
-/// A statement with so many entries is begun, and with all its parts it is what is told at once.
-fn comes_in_parts(
-    rt: &impl Abort,
-    alloc: Global,
-    firms: &mut FrailFirms,
-    (entries, left): (u64, u64),
-) -> Result<(), Fail> {
-    let message = statement(alloc)?;
-    let want = whole(alloc, entries)?;
-    same(rt, "all", firms.answer(alloc, &message, 0).bytes(), &want);
-    let begun = firms.begin(&message);
-    let mut told = begun.front.bytes().to_vec(alloc)?;
-    let many = read_on(firms, &mut told, begun.rest)?;
-    same(rt, "how many parts", many, left);
-    same(rt, "the parts", told.as_slice(), want.as_slice());
-    Ok(())
 }
 
 #[test]
@@ -76,41 +57,36 @@ fn tells_statements_in_parts(rt: HostRuntime) -> Result<(), Fail> {
     for (entries, left) in LEFT {
         send(rt.alloc(), &mut firms, first, entries.saturating_add(1))?;
         first = entries.saturating_add(1);
-        comes_in_parts(&rt, rt.alloc(), &mut firms, (entries, left))?;
+        // With all its parts it is what is told at once.
+        let message = statement(rt.alloc())?;
+        let want = whole(rt.alloc(), entries)?;
+        let all = firms.answer(rt.alloc(), &message, 0);
+        same(&rt, "all", all.bytes(), &want);
+        let begun = firms.begin(&message);
+        let mut told = begun.front.bytes().to_vec(rt.alloc())?;
+        let many = read_on(&mut firms, &mut told, begun.rest)?;
+        same(&rt, "how many parts", many, left);
+        same(&rt, "the parts", told.as_slice(), want.as_slice());
     }
     Ok(())
 }
 
 /// A statement is begun with 500 rows, and none is told of the entries that come then.
-fn tells_none_that_came_later(
-    rt: &impl Abort,
-    alloc: Global,
-    firms: &mut FrailFirms,
-    (entries, later): (u64, u64),
-) -> Result<(), Fail> {
-    let begun = firms.begin(&statement(alloc)?);
-    let mut told = begun.front.bytes().to_vec(alloc)?;
-    let first = whole(alloc, 500)?;
-    let front = first.strip_suffix(LAST).ok_or("no last chunk")?;
-    same(rt, "the front", told.as_slice(), front);
-    send(
-        alloc,
-        firms,
-        entries.saturating_add(1),
-        later.saturating_add(1),
-    )?;
-    read_on(firms, &mut told, begun.rest)?;
-    let want = whole(alloc, entries)?;
-    same(rt, "the parts", told.as_slice(), want.as_slice());
-    Ok(())
-}
-
 #[test]
 fn tells_no_later_entries(rt: HostRuntime) -> Result<(), Fail> {
     let mut firms = base(&rt, rt.alloc())?.frail();
     send(rt.alloc(), &mut firms, 1, 501)?;
-    for (entries, later) in [(500, 501), (501, 1100), (1100, 1101)] {
-        tells_none_that_came_later(&rt, rt.alloc(), &mut firms, (entries, later))?;
+    for (entries, later) in [(500_u64, 501_u64), (501, 1100), (1100, 1101)] {
+        let begun = firms.begin(&statement(rt.alloc())?);
+        let mut told = begun.front.bytes().to_vec(rt.alloc())?;
+        let whole_of_first = whole(rt.alloc(), 500)?;
+        let front = whole_of_first.strip_suffix(LAST).ok_or("no last chunk")?;
+        same(&rt, "the front", told.as_slice(), front);
+        let (first, end) = (entries.saturating_add(1), later.saturating_add(1));
+        send(rt.alloc(), &mut firms, first, end)?;
+        read_on(&mut firms, &mut told, begun.rest)?;
+        let want = whole(rt.alloc(), entries)?;
+        same(&rt, "the parts", told.as_slice(), want.as_slice());
     }
     Ok(())
 }
@@ -122,18 +98,14 @@ fn reads_a_part_again_that_was_refused(rt: HostRuntime) -> Result<(), Fail> {
     let mut told = begun.front.bytes().to_vec(rt.alloc())?;
     let rest = begun.rest.ok_or("nothing is left")?;
     for why in [Unavailable::Memory, Unavailable::Size, Unavailable::Disk] {
-        firms.refuse(0, why);
-        let refused = firms.part(&rest).map(|_| ());
-        same(&rt, "refused", refused, Err(ReadFault::Unavailable(why)));
+        firms.ledgers.refusal = Some((0, why));
+        let refused = firms.part(&rest).err();
+        same(&rt, "refused", refused, Some(ReadFault::Unavailable(why)));
     }
-    let shut = firms.part(&rest).map(|_| ());
-    same(
-        &rt,
-        "shut",
-        shut,
-        Err(ReadFault::Unavailable(Unavailable::Disk)),
-    );
-    firms.open_again();
+    let shut = firms.part(&rest).err();
+    let disk = ReadFault::Unavailable(Unavailable::Disk);
+    same(&rt, "shut", shut, Some(disk));
+    firms.ledgers.is_shut = false;
     read_on(&mut firms, &mut told, Some(rest))?;
     let want = whole(rt.alloc(), ENTRIES)?;
     same(&rt, "the parts", told.as_slice(), want.as_slice());
@@ -148,7 +120,7 @@ fn leaves_nothing_behind_other_replies(rt: HostRuntime) -> Result<(), Fail> {
     let begun = firms.begin(b"");
     same(&rt, "no message", begun.rest, None);
     let message = statement(rt.alloc())?;
-    firms.refuse(0, Unavailable::Memory);
+    firms.ledgers.refusal = Some((0, Unavailable::Memory));
     let begun = firms.begin(&message);
     same(&rt, "refused", begun.front.bytes(), UNAVAILABLE.as_bytes());
     same(&rt, "refused", begun.rest, None);
@@ -167,11 +139,11 @@ fn digest_of(key: &str) -> Result<[u8; 32], &'static str> {
 fn tells_who_has_no_statement(rt: HostRuntime) -> Result<(), Fail> {
     let mut firms = base(&rt, rt.alloc())?.frail();
     let rest = Rest::whole(digest_of(FIRST)?, 9);
-    let told = firms.part(&rest).map(|_| ());
-    same(&rt, "no account", told, Err(ReadFault::NoAccount));
+    let told = firms.part(&rest).err();
+    same(&rt, "no account", told, Some(ReadFault::NoAccount));
     let rest = Rest::whole(digest_of(SECOND)?, 1);
-    let told = firms.part(&rest).map(|_| ());
-    same(&rt, "no firm", told, Err(ReadFault::UnknownKey));
+    let told = firms.part(&rest).err();
+    same(&rt, "no firm", told, Some(ReadFault::UnknownKey));
     Ok(())
 }
 
@@ -196,7 +168,7 @@ fn reads_pieces(rt: HostRuntime) -> Result<(), Fail> {
             order,
             most,
         };
-        let piece = firms.piece(&digest, 1, &span).map_err(|_| "no piece")?;
+        let piece = read_piece(rt.alloc(), &mut firms.ledgers, &digest, 1, &span)?;
         same(&rt, "the clock", piece.clock, 13);
         let mut told = Vec::new(rt.alloc());
         for entry in &piece.entries {

@@ -6,10 +6,10 @@ use super::scripts::{Answers, base, parts};
 use crate::tests::asserting::same;
 use crate::tests::firms::Firms;
 use crate::tests::messages::{BATCH, FIRST};
+use failing_streams::{Narrow, Pieces};
 use records::Streamed;
 use service::{Moments, ServeFault};
 use std::alloc::{AllocError, Global};
-use std::io::{self, ErrorKind, Read, Write};
 use std::process::Abort;
 use std::test::Fail;
 
@@ -27,85 +27,37 @@ impl Moments for Thousands {
     }
 }
 
-/// Takes some bytes, and then fails.
-#[derive(Drop)]
-struct Narrow {
-    taken: Vec<u8>,
-    room: usize,
-}
-
-impl Write for Narrow {
-    fn write(&mut self, buf: &[u8]) -> io::Result<usize> {
-        let count = buf.len().min(self.room);
-        if count == 0 {
-            return Err(ErrorKind::BrokenPipe.into());
-        }
-        self.taken.extend_from_slice(&buf[..count])?;
-        self.room -= count;
-        Ok(count)
+/// Bytes that are sent, behind which the connection ends, or fails.
+fn sender(bytes: &[u8], fails: bool) -> Pieces<'_> {
+    Pieces {
+        bytes,
+        piece: usize::MAX,
+        fails,
     }
-
-    fn flush(&mut self) -> io::Result<()> {
-        Ok(())
-    }
-}
-
-/// What comes behind what is sent.
-#[derive(Clone, Copy, PartialEq, Eq)]
-enum Then {
-    Ends,
-    Fails,
-}
-
-/// Sends some bytes, and then ends or fails.
-#[derive(Drop)]
-struct Sender<'a> {
-    left: &'a [u8],
-    then: Then,
-}
-
-impl Read for Sender<'_> {
-    fn read(&mut self, buf: &mut [u8]) -> io::Result<usize> {
-        if self.left.is_empty() && self.then == Then::Fails {
-            return Err(ErrorKind::ConnectionReset.into());
-        }
-        let count = buf.len().min(self.left.len());
-        let (front, rest) = self.left.split_at(count);
-        buf[..count].copy_from_slice(front);
-        self.left = rest;
-        Ok(count)
-    }
-}
-
-/// What became of a connection: what was written into it, how it ended, and what was not read.
-#[derive(Drop)]
-struct Served<'a> {
-    written: Vec<u8>,
-    ended: Result<u64, ServeFault>,
-    left: &'a [u8],
 }
 
 /// Room for all that is written.
 const ALL: usize = 10_000;
 
-/// Serves a connection with so much room, from a first moment, until so many replies are made.
+/// What is written into a connection, how it ends, and what is not read. It has so much room, and
+/// is served from a first moment, until so many replies are made.
 fn serve<'a>(
     alloc: Global,
     firms: &mut Firms,
-    sender: Sender<'a>,
+    sender: Pieces<'a>,
     (room, moment, most): (usize, u64, u64),
-) -> Served<'a> {
-    let taken = Vec::new(alloc);
+) -> (Vec<u8>, Result<u64, ServeFault>, &'a [u8]) {
     let mut reader = Streamed::new(sender);
-    let mut writer = Streamed::new(Narrow { taken, room });
+    let mut writer = Streamed::new(Narrow {
+        taken: Vec::new(alloc),
+        piece: usize::MAX,
+        room,
+        fails: true,
+    });
     let ended = firms.serve(&mut reader, &mut writer, &mut Thousands(moment), most);
     let Narrow { taken, .. } = writer.into_inner();
-    let Sender { left, .. } = reader.into_inner();
-    Served {
-        written: taken,
-        ended,
-        left,
-    }
+    let Pieces { bytes, .. } = reader.into_inner();
+    (taken, ended, bytes)
 }
 
 const DONE: &str = concat!(
@@ -183,31 +135,28 @@ fn together(alloc: Global, texts: &[&str]) -> Result<String, AllocError> {
 fn comes_to(
     rt: &impl Abort,
     alloc: Global,
-    (sender, most): (Sender, u64),
+    (sender, most): (Pieces<'_>, u64),
     (told, ended, left): (&[u8], Result<u64, ServeFault>, &[u8]),
 ) -> Result<(), Fail> {
     let mut firms = Firms::with(alloc, &[FIRST])?;
     let served = serve(alloc, &mut firms, sender, (ALL, 1000, most));
-    same(rt, "the connection", served.ended, ended);
-    same(rt, "what is written", served.written.as_slice(), told);
-    same(rt, "what is left", served.left, left);
+    same(rt, "the connection", served.1, ended);
+    same(rt, "what is written", served.0.as_slice(), told);
+    same(rt, "what is left", served.2, left);
     Ok(())
 }
 
 fn is_served(
     rt: &impl Abort,
     alloc: Global,
-    then: Then,
+    fails: bool,
     (sent, most, told, left): Connection,
 ) -> Result<(), Fail> {
     let count = told.len() as u64;
     let sent = together(alloc, sent)?;
     let told = together(alloc, told)?;
     let left = together(alloc, left)?;
-    let sender = Sender {
-        left: sent.as_bytes(),
-        then,
-    };
+    let sender = sender(sent.as_bytes(), fails);
     let want = (told.as_bytes(), Ok(count), left.as_bytes());
     comes_to(rt, alloc, (sender, most), want)
 }
@@ -215,7 +164,7 @@ fn is_served(
 #[test]
 fn serves_to_the_end(rt: HostRuntime) -> Result<(), Fail> {
     for connection in TO_THE_END {
-        is_served(&rt, rt.alloc(), Then::Ends, connection)?;
+        is_served(&rt, rt.alloc(), false, connection)?;
     }
     Ok(())
 }
@@ -223,36 +172,26 @@ fn serves_to_the_end(rt: HostRuntime) -> Result<(), Fail> {
 #[test]
 fn reads_no_byte_behind_the_last_message(rt: HostRuntime) -> Result<(), Fail> {
     for connection in IN_PART {
-        is_served(&rt, rt.alloc(), Then::Fails, connection)?;
+        is_served(&rt, rt.alloc(), true, connection)?;
     }
     Ok(())
 }
 
 #[test]
 fn tells_that_the_reader_failed(rt: HostRuntime) -> Result<(), Fail> {
-    let sender = Sender {
-        left: BATCH.as_bytes(),
-        then: Then::Fails,
-    };
+    let sender = sender(BATCH.as_bytes(), true);
     let want = (DONE.as_bytes(), Err(ServeFault::Read(1)), b"".as_slice());
     comes_to(&rt, rt.alloc(), (sender, 9), want)
-}
-
-fn is_refused(rt: &impl Abort, alloc: Global, line: &str) -> Result<(), Fail> {
-    let (head, told) = parts(line);
-    let head = written(alloc, head)?;
-    let told = wanted(alloc, told)?;
-    let sender = Sender {
-        left: &head,
-        then: Then::Fails,
-    };
-    comes_to(rt, alloc, (sender, 9), (&told, Ok(1), b"".as_slice()))
 }
 
 #[test]
 fn awaits_no_body_of_a_head_that_is_refused(rt: HostRuntime) -> Result<(), Fail> {
     for line in REFUSED_HEADS.lines() {
-        is_refused(&rt, rt.alloc(), line)?;
+        let (head, told) = parts(line);
+        let head = written(rt.alloc(), head)?;
+        let told = wanted(rt.alloc(), told)?;
+        let want = (told.as_slice(), Ok(1), b"".as_slice());
+        comes_to(&rt, rt.alloc(), (sender(&head, true), 9), want)?;
     }
     Ok(())
 }
@@ -276,19 +215,11 @@ fn keeps(rt: &impl Abort, alloc: Global, room: usize) -> Result<(), Fail> {
     let whole = good(alloc, TOLD)?;
     let again = good(alloc, TOLD_AGAIN)?;
     let mut firms = base(rt, alloc)?;
-    let sender = Sender {
-        left: &input,
-        then: Then::Ends,
-    };
-    let served = serve(alloc, &mut firms, sender, (room, 0, 9));
-    same(
-        rt,
-        "the connection",
-        served.ended,
-        Err(ServeFault::Write(0)),
-    );
+    let limits = (room, 0, 9);
+    let (taken, ended, _) = serve(alloc, &mut firms, sender(&input, false), limits);
+    same(rt, "the connection", ended, Err(ServeFault::Write(0)));
     let front = &whole[..room.min(whole.len())];
-    same(rt, "what is written", served.written.as_slice(), front);
+    same(rt, "what is written", taken.as_slice(), front);
     let reply = firms.answer(alloc, &input, 0);
     same(rt, "the reply", reply.bytes(), again.as_slice());
     Ok(())

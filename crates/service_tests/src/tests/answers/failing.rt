@@ -2,37 +2,19 @@
 
 use super::scripts::Answers;
 use crate::tests::frail::Frail;
-use chain::{AccountEntry, InUse, Ledgers, Listed, ReadFault};
+use chain::{InUse, Ledgers, ReadFault};
+use failing_streams::TakenRows;
 use ledger_http::Reply;
-use parts::{Part, Rest, read_piece};
+use parts::{Part, Rest};
 use plain::Book;
-use records::{Order, RowSink, SinkFault, Span, StatementRow, Unavailable};
+use records::{Order, StatementRow};
 use service::{Begun, begin, respond};
 use std::alloc::Global;
-
-/// Takes the timestamp and the id of each row.
-#[derive(Drop)]
-struct Taken {
-    rows: Vec<(u64, u128)>,
-}
-
-impl RowSink for Taken {
-    ghost takes = { λ _ _ _. Unit {0} };
-
-    ghost refuses = { λ _ _ _ _. Unit {0} };
-
-    fn row(&mut self, row: &StatementRow) -> Result<(), SinkFault> {
-        match self.rows.push((row.timestamp, row.transfer_id)) {
-            Ok(()) => Ok(()),
-            Err(_) => Err(SinkFault::Memory),
-        }
-    }
-}
 
 /// Firms of whose batches one may be refused.
 pub(crate) struct FrailFirms {
     alloc: Global,
-    ledgers: Frail,
+    pub(crate) ledgers: Frail,
 }
 
 // It is written out, so that who lets firms go does not prove again how each part is dropped.
@@ -64,30 +46,21 @@ impl FrailFirms {
         firms
     }
 
-    /// Behind so many batches one is refused.
-    pub(crate) fn refuse(&mut self, before: u64, why: Unavailable) {
-        self.ledgers.refusal = Some((before, why));
-    }
-
-    /// The ledgers are opened again.
-    pub(crate) fn open_again(&mut self) {
-        self.ledgers.is_shut = false;
-    }
-
-    /// The timestamps and ids of the rows of a statement that came, and how it ended.
+    /// The rows of a statement that came, and how it ended.
     pub(crate) fn rows(
         &mut self,
         digest: &[u8; 32],
         account: u128,
         order: Order,
-    ) -> (Vec<(u64, u128)>, Result<(), ReadFault>) {
-        let mut taken = Taken {
-            rows: Vec::new(self.alloc),
+    ) -> (Vec<StatementRow>, Result<(), ReadFault>) {
+        let mut rows = TakenRows {
+            taken: Vec::new(self.alloc),
+            room: usize::MAX,
         };
         let ended = self
             .ledgers
-            .each_statement_row(self.alloc, digest, account, order, &mut taken);
-        (taken.rows, ended)
+            .each_statement_row(self.alloc, digest, account, order, &mut rows);
+        (rows.taken, ended)
     }
 
     /// Begins the reply to a message.
@@ -98,16 +71,6 @@ impl FrailFirms {
     /// The next part of a statement.
     pub(crate) fn part(&mut self, rest: &Rest) -> Result<Part, ReadFault> {
         rest.part(self.alloc, &mut self.ledgers, b"")
-    }
-
-    /// An account's entries within a span of time, and the clock.
-    pub(crate) fn piece(
-        &mut self,
-        digest: &[u8; 32],
-        account: u128,
-        span: &Span,
-    ) -> Result<Listed<AccountEntry>, ReadFault> {
-        read_piece(self.alloc, &mut self.ledgers, digest, account, span)
     }
 }
 

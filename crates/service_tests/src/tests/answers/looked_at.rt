@@ -2,10 +2,8 @@
 use super::events::add;
 use super::messages::post;
 use super::scripts::{Answers, base, exchange, parts};
-use crate::tests::firms::Firms;
 use crate::tests::messages::FIRST;
 use std::alloc::{AllocError, Global};
-use std::process::Abort;
 use std::test::Fail;
 
 /// The last of 2,100 transfers, which alone is marked. Their ids go on from 1, their timestamps
@@ -64,33 +62,22 @@ pub(crate) fn send<A: Answers>(
     Ok(())
 }
 
-/// Asks for a page, and looks at the reply.
-fn ask(rt: &impl Abort, alloc: Global, firms: &mut Firms, line: &str) -> Result<(), AllocError> {
-    let (asked, want) = parts(line);
-    let (next, shown) = match want.split_once(' ') {
-        Some((next, _)) => (next, SHOWN),
-        None => (want, ""),
-    };
-    let line = format!(in alloc;
-        "{asked} => {{\"clock\":\"2104\",\"next\":\"{next}\",\"transfers\":[{shown}]}}"
-    )?;
-    exchange(rt, alloc, firms, &line)
-}
-
-/// A firm with these transfers.
-fn filled(rt: &impl Abort, alloc: Global) -> Result<Firms, Fail> {
-    let mut firms = base(rt, alloc)?;
-    for (first, end) in [(1, 701), (701, 1401), (1401, 2101)] {
-        send(alloc, &mut firms, first, end)?;
-    }
-    Ok(firms)
-}
-
 #[test]
 fn ends_pages_where_enough_is_looked_at(rt: HostRuntime) -> Result<(), Fail> {
-    let mut firms = filled(&rt, rt.alloc())?;
+    let mut firms = base(&rt, rt.alloc())?;
+    for (first, end) in [(1, 701), (701, 1401), (1401, 2101)] {
+        send(rt.alloc(), &mut firms, first, end)?;
+    }
     for line in PAGES.lines() {
-        ask(&rt, rt.alloc(), &mut firms, line)?;
+        let (asked, want) = parts(line);
+        let (next, shown) = match want.split_once(' ') {
+            Some((next, _)) => (next, SHOWN),
+            None => (want, ""),
+        };
+        let line = format!(in rt.alloc();
+            "{asked} => {{\"clock\":\"2104\",\"next\":\"{next}\",\"transfers\":[{shown}]}}"
+        )?;
+        exchange(&rt, rt.alloc(), &mut firms, &line)?;
     }
     Ok(())
 }

@@ -8,7 +8,7 @@ use super::scripts::{Answers, base};
 use crate::tests::asserting::same;
 use crate::tests::messages::{FIRST, HEADER, UNAVAILABLE};
 use chain::ReadFault;
-use records::{Order, Unavailable};
+use records::{Order, StatementRow, Unavailable};
 use std::alloc::{AllocError, Global};
 use std::process::Abort;
 use std::test::Fail;
@@ -46,13 +46,13 @@ fn is_whole_or_unavailable(
     (message, whole): (&[u8], &[u8]),
     (before, why): (u64, Unavailable),
 ) {
-    firms.refuse(before, why);
+    firms.ledgers.refusal = Some((before, why));
     let first = firms.answer(alloc, message, 0);
     same(rt, "refused", first.bytes(), UNAVAILABLE.as_bytes());
     if why == Unavailable::Disk {
         let second = firms.answer(alloc, message, 0);
         same(rt, "failed", second.bytes(), UNAVAILABLE.as_bytes());
-        firms.open_again();
+        firms.ledgers.is_shut = false;
     }
     same(rt, "again", firms.answer(alloc, message, 0).bytes(), whole);
 }
@@ -73,7 +73,7 @@ fn tells_no_beginning_of_a_statement(rt: HostRuntime) -> Result<(), Fail> {
             );
         }
     }
-    firms.refuse(3, Unavailable::Memory);
+    firms.ledgers.refusal = Some((3, Unavailable::Memory));
     same(
         &rt,
         "three pieces",
@@ -93,10 +93,10 @@ fn entry(order: Order, place: u64) -> (u64, u128) {
 }
 
 /// Whether these are the first entries from one end, and how many.
-fn beginning(order: Order, rows: &[(u64, u128)]) -> Option<u64> {
+fn beginning(order: Order, rows: &[StatementRow]) -> Option<u64> {
     let mut many = 0;
     for row in rows {
-        if *row != entry(order, many) {
+        if (row.timestamp, row.transfer_id) != entry(order, many) {
             return None;
         }
         many = many.saturating_add(1);
@@ -111,7 +111,7 @@ fn hands_out_a_part(
     digest: &[u8; 32],
     (before, order): (u64, Order),
 ) {
-    firms.refuse(before, Unavailable::Memory);
+    firms.ledgers.refusal = Some((before, Unavailable::Memory));
     let (rows, ended) = firms.rows(digest, 1, order);
     let want = Err(ReadFault::Unavailable(Unavailable::Memory));
     same(rt, "refused", ended, want);

@@ -12,22 +12,6 @@ use std::alloc::Global;
 use std::cell::Cell;
 use std::test::Fail;
 
-/// Ledgers in memory do not fail.
-#[derive(Drop)]
-struct Never;
-
-impl Steward<InUse<Book>> for Never {
-    ghost renews = { λ old new. ⊤ };
-
-    fn is_settled(_ledgers: &InUse<Book>) {}
-
-    fn attend(&mut self, _ledgers: &mut InUse<Book>) {}
-
-    fn reads(alloc: Global, ledgers: &mut InUse<Book>, rest: &Rest) -> Option<Part> {
-        rest.part(alloc, ledgers, b"").ok()
-    }
-}
-
 /// Cannot read what is left of statements.
 #[derive(Drop)]
 struct Blind;
@@ -44,7 +28,7 @@ impl Steward<InUse<Book>> for Blind {
     }
 }
 
-/// Puts off batches of more than so many bytes, so many times.
+/// Ledgers in memory do not fail. It puts off batches of more than so many bytes, so many times.
 #[derive(Drop)]
 struct PutsOff {
     most: usize,
@@ -75,11 +59,19 @@ impl Steward<InUse<Book>> for PutsOff {
     }
 }
 
+/// Puts off none.
+fn never() -> PutsOff {
+    PutsOff {
+        most: 0,
+        left: Cell::new(0),
+    }
+}
+
 impl Firms {
     /// Serves clients until nothing more happens, or so many messages were replied to.
     pub(crate) fn serve_ready(&mut self, peers: &mut Scripted, most: u64) -> u64 {
         let mut seats = Seats::new(self.alloc);
-        self.serve_seated(peers, &mut seats, most)
+        self.serve_seated(peers, &mut seats, &mut never(), most)
     }
 
     /// Serves clients until so many messages were replied to. Then another one comes, and what is
@@ -91,9 +83,9 @@ impl Firms {
         another: Peer<'a>,
     ) -> Result<u64, Fail> {
         let mut seats = Seats::new(self.alloc);
-        let replies = self.serve_seated(peers, &mut seats, most);
-        peers.joins(another)?;
-        write_rest::<InUse<Book>, Never, Always, Scripted<'a>>(
+        let replies = self.serve_seated(peers, &mut seats, &mut never(), most);
+        peers.peers.push(another)?;
+        write_rest::<InUse<Book>, PutsOff, Always, Scripted<'a>>(
             self.alloc,
             peers,
             &mut seats,
@@ -143,7 +135,7 @@ impl Firms {
             &mut piece,
             99,
         );
-        (replies, frail.rounds())
+        (replies, frail.rounds)
     }
 
     /// Serves clients while batches of more than so many bytes are put off, so many times. Says how
@@ -155,31 +147,27 @@ impl Firms {
         times: u64,
     ) -> u64 {
         let mut seats = Seats::new(self.alloc);
-        let mut piece = [0; 100];
         let mut steward = PutsOff {
             most,
             left: Cell::new(times),
         };
-        serve_ready(
-            self.alloc,
-            peers,
-            &mut seats,
-            &mut self.ledgers,
-            &mut steward,
-            &mut Always(1000),
-            &mut piece,
-            99,
-        )
+        self.serve_seated(peers, &mut seats, &mut steward, 99)
     }
 
-    fn serve_seated(&mut self, peers: &mut Scripted, seats: &mut Seats, most: u64) -> u64 {
+    fn serve_seated(
+        &mut self,
+        peers: &mut Scripted,
+        seats: &mut Seats,
+        steward: &mut PutsOff,
+        most: u64,
+    ) -> u64 {
         let mut piece = [0; 100];
         serve_ready(
             self.alloc,
             peers,
             seats,
             &mut self.ledgers,
-            &mut Never,
+            steward,
             &mut Always(1000),
             &mut piece,
             most,

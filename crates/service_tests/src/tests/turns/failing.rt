@@ -27,11 +27,6 @@ fn of_a_round_that_is_refused_each_is_answered_alone(rt: HostRuntime) -> Result<
     Ok(())
 }
 
-// Whether it is these, one behind the other.
-fn is_behind(heard: &[u8], first: &[u8], second: &[u8]) -> bool {
-    heard.starts_with(first) && heard.get(first.len()..).unwrap_or(&[]) == second
-}
-
 // Whether a client was told `unavailable`, and then, to the same message again, what a connection
 // alone is told that has sent it before, or has not.
 fn hears_again(
@@ -52,7 +47,7 @@ fn hears_again(
     };
     let again = replies.get(before..).unwrap_or(&[]);
     match peers.peer(number) {
-        Some(peer) => Ok(is_behind(peer.heard(), UNAVAILABLE.as_bytes(), again)),
+        Some(peer) => Ok(peer.heard.strip_prefix(UNAVAILABLE.as_bytes()) == Some(again)),
         None => Ok(false),
     }
 }

@@ -32,13 +32,13 @@ pub(crate) fn clients(
 
 /// Behind how many things that were told a client was first written to.
 pub(crate) fn written_at(peers: &Scripted, number: usize) -> Option<u64> {
-    peers.peer(number)?.written_at()
+    peers.peer(number)?.written_at
 }
 
 /// Whether a client was written this, and nothing more.
 pub(crate) fn has_heard(peers: &Scripted, number: usize, text: &[u8]) -> bool {
     match peers.peer(number) {
-        Some(peer) => peer.heard() == text,
+        Some(peer) => peer.heard.as_slice() == text,
         None => false,
     }
 }
@@ -75,7 +75,7 @@ fn many_share_rounds_and_hear_what_each_hears_alone(rt: HostRuntime) -> Result<(
     assert!(rt; written_at(&peers, 0) == written_at(&peers, 31));
     assert!(rt; written_at(&peers, 31) < written_at(&peers, 32));
     assert!(rt; written_at(&peers, 32) == written_at(&peers, 39));
-    assert!(rt; peers.shared_so_far() >= 40);
+    assert!(rt; peers.shared.get() >= 40);
     Ok(())
 }
 
@@ -85,7 +85,7 @@ fn who_is_alone_shares_no_round(rt: HostRuntime) -> Result<(), Fail> {
     let mut peers = clients(&rt, &[OF_SECOND])?;
     assert!(rt; firms.serve_ready(&mut peers, 99) == 3);
     assert!(rt; has_heard(&peers, 0, TO_SECOND.as_bytes()));
-    assert!(rt; peers.shared_so_far() == 0);
+    assert!(rt; peers.shared.get() == 0);
     Ok(())
 }
 
@@ -95,7 +95,7 @@ fn batches_are_told_with_their_replies(rt: HostRuntime) -> Result<(), Fail> {
     let mut firms = Firms::with(rt.alloc(), &KEYS)?;
     let mut peers = clients(&rt, &[OF_SECOND])?;
     assert!(rt; firms.serve_ready(&mut peers, 99) == 3);
-    assert!(rt; peers.batches() == (0, 2, TO_SECOND.len() - TO_CUT.len()));
+    assert!(rt; peers.batches.get() == (0, 2, TO_SECOND.len() - TO_CUT.len()));
     Ok(())
 }
 
@@ -104,8 +104,8 @@ fn batches_of_a_round_are_told_too(rt: HostRuntime) -> Result<(), Fail> {
     let mut firms = Firms::with(rt.alloc(), &KEYS)?;
     let mut peers = clients(&rt, &[OF_FIRST, READ, OF_SECOND])?;
     assert!(rt; firms.serve_ready(&mut peers, 99) == 7);
-    assert!(rt; peers.shared_so_far() > 0);
-    let (accounts, transfers, _) = peers.batches();
+    assert!(rt; peers.shared.get() > 0);
+    let (accounts, transfers, _) = peers.batches.get();
     assert!(rt; (accounts, transfers) == (1, 3));
     Ok(())
 }

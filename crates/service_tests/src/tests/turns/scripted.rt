@@ -5,25 +5,25 @@ ghost use Rattle.std.specs.Prelude.{⊤};
 use polling::{Batch, Peers, Read, Told, Written};
 use std::alloc::Global;
 use std::cell::Cell;
-use std::test::Fail;
 
 /// One client: what it still sends, and what it was written.
 #[derive(Drop)]
 pub(crate) struct Peer<'a> {
     sends: &'a [u8],
-    heard: Vec<u8>,
-    is_open: bool,
+    pub(crate) heard: Vec<u8>,
+    /// Whether it was not let go.
+    pub(crate) is_open: bool,
     /// Whether its next reading or writing would wait.
     waits: bool,
     never_waits: bool,
     /// How many bytes more it takes before it breaks.
     takes: usize,
-    /// How long its messages were told to be, each length once in a row.
-    wanted: Vec<u64>,
+    /// How long its messages were told to be before it was read, each length once in a row.
+    pub(crate) wanted: Vec<u64>,
     /// Behind how many things that were told it was first written to.
-    written_at: Option<u64>,
+    pub(crate) written_at: Option<u64>,
     /// Behind how many it took something, each time.
-    taken_at: Vec<u64>,
+    pub(crate) taken_at: Vec<u64>,
 }
 
 impl<'a> Peer<'a> {
@@ -42,35 +42,10 @@ impl<'a> Peer<'a> {
         }
     }
 
-    /// What it was written.
-    pub(crate) fn heard(&self) -> &[u8] {
-        &self.heard
-    }
-
-    /// How long its messages were told to be, before it was read.
-    pub(crate) fn wanted(&self) -> &[u64] {
-        &self.wanted
-    }
-
-    /// Behind how many things that were told it was first written to.
-    pub(crate) fn written_at(&self) -> Option<u64> {
-        self.written_at
-    }
-
-    /// Behind how many things that were told it took something, each time.
-    pub(crate) fn taken_at(&self) -> &[u64] {
-        &self.taken_at
-    }
-
     /// It never has to wait.
     pub(crate) fn at_once(mut self) -> Peer<'a> {
         self.never_waits = true;
         self
-    }
-
-    /// Whether it was not let go.
-    pub(crate) fn is_open(&self) -> bool {
-        self.is_open
     }
 
     /// Every other time it waits.
@@ -86,7 +61,7 @@ impl<'a> Peer<'a> {
 /// Clients that join one after the other, and of whom each is ready in turn.
 #[derive(Drop)]
 pub(crate) struct Scripted<'a> {
-    peers: Vec<Peer<'a>>,
+    pub(crate) peers: Vec<Peer<'a>>,
     next: u64,
     /// How many bytes are read or taken at once.
     piece: usize,
@@ -96,9 +71,9 @@ pub(crate) struct Scripted<'a> {
     /// How many things were told.
     told: u64,
     /// How many messages were answered in rounds.
-    shared: Cell<u64>,
+    pub(crate) shared: Cell<u64>,
     /// How many batches of accounts and of transfers were answered, and how long the replies are.
-    batches: Cell<(u64, u64, usize)>,
+    pub(crate) batches: Cell<(u64, u64, usize)>,
 }
 
 impl<'a> Scripted<'a> {
@@ -115,31 +90,10 @@ impl<'a> Scripted<'a> {
         }
     }
 
-    /// How many batches of accounts and of transfers were answered, and how long the replies are.
-    pub(crate) fn batches(&self) -> (u64, u64, usize) {
-        self.batches.get()
-    }
-
-    /// How many messages were answered in rounds.
-    pub(crate) fn shared_so_far(&self) -> u64 {
-        self.shared.get()
-    }
-
-    /// This client has had its time.
-    pub(crate) fn is_late(&mut self, number: u64) {
-        self.late = Some(number);
-    }
-
     /// This client has had its time when so much was told.
     pub(crate) fn is_late_at(&mut self, number: u64, told: u64) {
         self.late = Some(number);
         self.late_at = told;
-    }
-
-    /// Another client comes.
-    pub(crate) fn joins(&mut self, peer: Peer<'a>) -> Result<(), Fail> {
-        self.peers.push(peer)?;
-        Ok(())
     }
 
     /// The client with a number.
@@ -154,12 +108,10 @@ impl<'a> Scripted<'a> {
         self.peers.get_mut(at)
     }
 
-    fn is_ready(&self, number: u64) -> bool {
-        let Ok(at) = usize::try_from(number) else {
-            return false;
-        };
-        match self.peers.get(at) {
-            Some(peer) => peer.is_open,
+    /// Whether a client was written this and nothing more, and was let go, or not.
+    pub(crate) fn has_heard(&self, number: usize, text: &[u8], is_open: bool) -> bool {
+        match self.peer(number) {
+            Some(peer) => peer.heard.as_slice() == text && peer.is_open == is_open,
             None => false,
         }
     }
@@ -182,12 +134,8 @@ impl Peers for Scripted<'_> {
         }
         for _ in 0..count {
             let number = self.next;
-            self.next = if number.saturating_add(1) < count {
-                number.saturating_add(1)
-            } else {
-                0
-            };
-            if self.is_ready(number) {
+            self.next = number.saturating_add(1) % count.max(1);
+            if let Some(Peer { is_open: true, .. }) = self.peer_mut(number) {
                 return Told::Ready(number);
             }
         }

@@ -13,21 +13,6 @@ fn two(rt: &impl AllocGlobal, piece: usize, takes: usize) -> Result<Scripted<'st
     Ok(Scripted::new(peers, piece))
 }
 
-fn has_heard(peers: &Scripted, number: usize, text: &[u8]) -> bool {
-    match peers.peer(number) {
-        Some(peer) => peer.heard() == text && !peer.is_open(),
-        None => false,
-    }
-}
-
-// What a client was written that was not let go.
-fn has_heard_so_far(peers: &Scripted, number: usize, text: &[u8]) -> bool {
-    match peers.peer(number) {
-        Some(peer) => peer.heard() == text && peer.is_open(),
-        None => false,
-    }
-}
-
 #[test]
 fn each_client_hears_its_own_whatever_the_pieces(rt: HostRuntime) -> Result<(), Fail> {
     let to_first = Firms::with(rt.alloc(), &KEYS)?.serve_alone(OF_FIRST.as_bytes());
@@ -36,8 +21,8 @@ fn each_client_hears_its_own_whatever_the_pieces(rt: HostRuntime) -> Result<(), 
         let mut peers = two(&rt, piece, 10000)?;
         let replies = firms.serve_ready(&mut peers, 99);
         assert!(rt; replies == 6);
-        assert!(rt; has_heard(&peers, 0, to_first.as_slice()));
-        assert!(rt; has_heard(&peers, 1, TO_SECOND.as_bytes()));
+        assert!(rt; peers.has_heard(0, to_first.as_slice(), false));
+        assert!(rt; peers.has_heard(1, TO_SECOND.as_bytes(), false));
     }
     Ok(())
 }
@@ -49,8 +34,8 @@ fn a_client_that_breaks_is_let_go_and_the_other_served(rt: HostRuntime) -> Resul
     let mut peers = two(&rt, 7, 10)?;
     let replies = firms.serve_ready(&mut peers, 99);
     assert!(rt; replies == 4);
-    assert!(rt; has_heard(&peers, 0, to_first.get(..10).unwrap_or(&[])));
-    assert!(rt; has_heard(&peers, 1, TO_SECOND.as_bytes()));
+    assert!(rt; peers.has_heard(0, to_first.get(..10).unwrap_or(&[]), false));
+    assert!(rt; peers.has_heard(1, TO_SECOND.as_bytes(), false));
     Ok(())
 }
 
@@ -67,11 +52,11 @@ fn stops_behind_so_many_replies(rt: HostRuntime) -> Result<(), Fail> {
 fn a_client_that_is_late_is_let_go_and_the_other_served(rt: HostRuntime) -> Result<(), Fail> {
     let mut firms = Firms::with(rt.alloc(), &KEYS)?;
     let mut peers = two(&rt, 100, 10000)?;
-    peers.is_late(0);
+    peers.is_late_at(0, 0);
     let replies = firms.serve_ready(&mut peers, 99);
     assert!(rt; replies == 3);
-    assert!(rt; has_heard(&peers, 0, &[]));
-    assert!(rt; has_heard(&peers, 1, TO_SECOND.as_bytes()));
+    assert!(rt; peers.has_heard(0, &[], false));
+    assert!(rt; peers.has_heard(1, TO_SECOND.as_bytes(), false));
     Ok(())
 }
 
@@ -84,9 +69,9 @@ fn what_is_left_of_replies_is_written_and_who_comes_is_let_go(rt: HostRuntime) -
     let another = Peer::new(rt.alloc(), first, 10000);
     let replies = firms.serve_and_finish(&mut peers, 2, another)?;
     assert!(rt; replies == 2);
-    assert!(rt; has_heard_so_far(&peers, 0, to_first.as_slice()));
-    assert!(rt; has_heard_so_far(&peers, 1, TO_SECOND.as_bytes().get(..100).unwrap_or(&[])));
-    assert!(rt; has_heard(&peers, 2, &[]));
+    assert!(rt; peers.has_heard(0, to_first.as_slice(), true));
+    assert!(rt; peers.has_heard(1, TO_SECOND.as_bytes().get(..100).unwrap_or(&[]), true));
+    assert!(rt; peers.has_heard(2, &[], false));
     Ok(())
 }
 
@@ -96,14 +81,8 @@ fn tells_how_long_a_message_is_once_its_head_has_come(rt: HostRuntime) -> Result
     let mut firms = Firms::with(rt.alloc(), &KEYS)?;
     let mut peers = two(&rt, 1, 10000)?;
     let _ = firms.serve_ready(&mut peers, 99);
-    assert!(rt; is_told(&peers, 0, &[0, 190, 0, 129, 0]));
+    let peer = peers.peer(0).ok_or("no such client")?;
+    let lengths = [0, 190, 0, 129, 0];
+    assert_eq!(rt; peer.wanted.as_slice(), lengths.as_slice());
     Ok(())
-}
-
-// Which lengths were told of a client's messages.
-fn is_told(peers: &Scripted, number: usize, lengths: &[u64]) -> bool {
-    match peers.peer(number) {
-        Some(peer) => peer.wanted() == lengths,
-        None => false,
-    }
 }

@@ -32,18 +32,10 @@ fn clients<'a>(
     Ok(Scripted::new(peers, piece))
 }
 
-// Whether a client was written this and nothing more, and was let go, or not.
-fn has_heard(peers: &Scripted, number: usize, text: &[u8], is_open: bool) -> bool {
-    match peers.peer(number) {
-        Some(peer) => peer.heard() == text && peer.is_open() == is_open,
-        None => false,
-    }
-}
-
 // Behind how many things that were told a client took something, each time.
 fn taken_at<'a>(peers: &'a Scripted, number: usize) -> &'a [u64] {
     match peers.peer(number) {
-        Some(peer) => peer.taken_at(),
+        Some(peer) => &peer.taken_at,
         None => &[],
     }
 }
@@ -61,7 +53,7 @@ fn a_statement_is_whole_whatever_the_pieces(rt: HostRuntime) -> Result<(), Fail>
         for piece in [97, 1000] {
             let mut peers = clients(alloc, &[ASKS.as_bytes()], piece, false)?;
             assert!(rt; firms.serve_ready(&mut peers, 99) == 1);
-            assert!(rt; has_heard(&peers, 0, &told, false));
+            assert!(rt; peers.has_heard(0, &told, false));
         }
     }
     Ok(())
@@ -103,8 +95,8 @@ fn others_are_answered_between_two_parts(rt: HostRuntime) -> Result<(), Fail> {
     assert!(rt; firms.serve_ready(&mut peers, 99) == 4);
     let taken = taken_at(&peers, 0);
     assert!(rt; is_between(taken_at(&peers, 1), taken.first(), taken.get(1)));
-    assert!(rt; has_heard(&peers, 0, &told, false));
-    assert!(rt; has_heard(&peers, 1, TO_SECOND.as_bytes(), false));
+    assert!(rt; peers.has_heard(0, &told, false));
+    assert!(rt; peers.has_heard(1, TO_SECOND.as_bytes(), false));
     Ok(())
 }
 
@@ -144,7 +136,7 @@ fn what_is_booked_meanwhile_is_told_by_the_next_one(rt: HostRuntime) -> Result<(
     assert!(rt; firms.serve_ready(&mut peers, 99) == 3);
     let taken = taken_at(&peers, 0);
     assert!(rt; is_between(taken_at(&peers, 1), taken.get(1), taken.get(2)));
-    assert!(rt; has_heard(&peers, 0, &told, false));
+    assert!(rt; peers.has_heard(0, &told, false));
     Ok(())
 }
 
@@ -165,9 +157,9 @@ fn a_statement_that_cannot_be_read_on_is_cut_short(rt: HostRuntime) -> Result<()
         let mut firms = firms_with(alloc, &KEYS, 501)?;
         let mut peers = clients(alloc, &texts, piece, at_once)?;
         assert!(rt; firms.serve_blind(&mut peers, 99) == 4);
-        assert!(rt; has_heard(&peers, 0, &told, false));
+        assert!(rt; peers.has_heard(0, &told, false));
         assert!(rt; !told.ends_with(LAST.as_bytes()));
-        assert!(rt; has_heard(&peers, 1, TO_SECOND.as_bytes(), false));
+        assert!(rt; peers.has_heard(1, TO_SECOND.as_bytes(), false));
     }
     Ok(())
 }
@@ -186,8 +178,8 @@ fn the_rest_of_a_statement_is_written_at_the_end(rt: HostRuntime) -> Result<(), 
         let mut peers = clients(alloc, &[&asks], piece, false)?;
         let another = Peer::new(alloc, ASKS.as_bytes(), ALL);
         assert!(rt; firms.serve_and_finish(&mut peers, 1, another)? == 1);
-        assert!(rt; has_heard(&peers, 0, &told, true));
-        assert!(rt; has_heard(&peers, 1, &[], false));
+        assert!(rt; peers.has_heard(0, &told, true));
+        assert!(rt; peers.has_heard(1, &[], false));
     }
     Ok(())
 }
@@ -199,7 +191,7 @@ fn at_the_end_too_it_is_cut_short_where_it_cannot_be_read_on(rt: HostRuntime) ->
     let mut firms = firms_with(alloc, &KEYS, 501)?;
     let mut peers = clients(alloc, &[ASKS.as_bytes()], 1000, false)?;
     assert!(rt; firms.serve_blind(&mut peers, 1) == 1);
-    assert!(rt; has_heard(&peers, 0, &told, false));
+    assert!(rt; peers.has_heard(0, &told, false));
     Ok(())
 }
 
@@ -213,7 +205,7 @@ fn who_is_late_between_two_parts_is_let_go(rt: HostRuntime) -> Result<(), Fail> 
     let mut peers = clients(alloc, &texts, ALL, true)?;
     peers.is_late_at(0, 7);
     assert!(rt; firms.serve_ready(&mut peers, 99) == 4);
-    assert!(rt; has_heard(&peers, 0, &told, false));
-    assert!(rt; has_heard(&peers, 1, TO_SECOND.as_bytes(), false));
+    assert!(rt; peers.has_heard(0, &told, false));
+    assert!(rt; peers.has_heard(1, TO_SECOND.as_bytes(), false));
     Ok(())
 }

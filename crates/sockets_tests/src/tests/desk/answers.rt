@@ -35,11 +35,6 @@ const EACH: [Step; 16] = [
     Tells(3, Ok("{\"a\":[]}")),
 ];
 
-#[test]
-fn gives_the_order_of_each_call(rt: HostRuntime) -> Result<(), Fail> {
-    play(&rt, "orders.control", &EACH, &[])
-}
-
 const HEAD: &str = "POST /control/tenants HTTP/1.1\r\nHost: x\r\nUser-Agent: curl/8.5.0\r\n\
     Accept: */*\r\nContent-Length: 97\r\nContent-Type: application/x-www-form-urlencoded\r\n\r\n";
 
@@ -68,11 +63,6 @@ const IN_PIECES: [Step; 11] = [
     Hears(1, TAKEN),
 ];
 
-#[test]
-fn answers_whole_messages(rt: HostRuntime) -> Result<(), Fail> {
-    play(&rt, "pieces.control", &IN_PIECES, &[])
-}
-
 // Those who came first are answered first.
 const IN_TURN: [Step; 11] = [
     Calls(Call::Tenants),
@@ -88,11 +78,6 @@ const IN_TURN: [Step; 11] = [
     Tells(1, Ok("{}")),
 ];
 
-#[test]
-fn answers_in_turn(rt: HostRuntime) -> Result<(), Fail> {
-    play(&rt, "turns.control", &IN_TURN, &[])
-}
-
 // Nobody is told the answer to another one's order.
 const UNANSWERED: [Step; 7] = [
     Calls(Call::Tenants),
@@ -103,11 +88,6 @@ const UNANSWERED: [Step; 7] = [
     Hears(0, ""),
     Tells(1, Ok("{}")),
 ];
-
-#[test]
-fn lets_go_who_is_not_answered(rt: HostRuntime) -> Result<(), Fail> {
-    play(&rt, "unanswered.control", &UNANSWERED, &[])
-}
 
 // Eight are connected at once. The ninth is heard once one of them has gone.
 const EIGHT: [Step; 25] = [
@@ -139,6 +119,15 @@ const EIGHT: [Step; 25] = [
 ];
 
 #[test]
-fn hears_eight_at_once(rt: HostRuntime) -> Result<(), Fail> {
-    play(&rt, "eight.control", &EIGHT, &[])
+fn gives_orders_and_answers(rt: HostRuntime) -> Result<(), Fail> {
+    for (path, steps) in [
+        ("orders.control", EACH.as_slice()),
+        ("pieces.control", &IN_PIECES),
+        ("turns.control", &IN_TURN),
+        ("unanswered.control", &UNANSWERED),
+        ("eight.control", &EIGHT),
+    ] {
+        play(&rt, path, steps, &[])?;
+    }
+    Ok(())
 }

@@ -34,11 +34,6 @@ const MEANWHILE: [Step; 15] = [
     Tells(2, Err(Fault::Exists)),
 ];
 
-#[test]
-fn answers_a_copy_once_it_is_made(rt: HostRuntime) -> Result<(), Fail> {
-    play(&rt, "copy.control", &MEANWHILE, &[])
-}
-
 // There is one copy at a time. Who asks for another is refused, and who asks behind them is heard.
 const A_SECOND: [Step; 10] = [
     Calls(COPIES),
@@ -52,11 +47,6 @@ const A_SECOND: [Step; 10] = [
     AnswersCopy(2, Ok("{\"copied\":\"1\"}")),
     Tells(0, Ok("{\"copied\":\"1\"}")),
 ];
-
-#[test]
-fn refuses_a_second_copy(rt: HostRuntime) -> Result<(), Fail> {
-    play(&rt, "second.control", &A_SECOND, &[])
-}
 
 // At the end a copy that is not made is refused.
 const UNMADE: [Step; 4] = [
@@ -72,7 +62,9 @@ const AT_THE_END: [Step; 2] = [
 ];
 
 #[test]
-fn refuses_a_copy_at_the_end(rt: HostRuntime) -> Result<(), Fail> {
+fn answers_copies_and_refuses_them(rt: HostRuntime) -> Result<(), Fail> {
+    play(&rt, "copy.control", &MEANWHILE, &[])?;
+    play(&rt, "second.control", &A_SECOND, &[])?;
     play(&rt, "cut.control", &UNMADE, &AT_THE_END)
 }
 

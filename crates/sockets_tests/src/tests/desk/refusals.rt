@@ -127,11 +127,6 @@ const LONG: [Step; 14] = [
     Begins(1, "HTTP/1.1 400 "),
 ];
 
-#[test]
-fn refuses_long_messages(rt: HostRuntime) -> Result<(), Fail> {
-    play(&rt, "long.control", &LONG, &[])
-}
-
 // Who ends in the middle of a message is told so, and who ends before it is let go.
 const CUT: [Step; 8] = [
     Sends("GET /control/st"),
@@ -145,6 +140,7 @@ const CUT: [Step; 8] = [
 ];
 
 #[test]
-fn tells_who_ends_in_the_middle(rt: HostRuntime) -> Result<(), Fail> {
+fn refuses_long_messages_and_those_that_are_cut(rt: HostRuntime) -> Result<(), Fail> {
+    play(&rt, "long.control", &LONG, &[])?;
     play(&rt, "middle.control", &CUT, &[])
 }

@@ -52,14 +52,6 @@ fn is_order_of(order: &Order, call: &Call<'static>) -> bool {
     }
 }
 
-fn is_ordered(order: Option<Order>, want: &Option<Call<'static>>) -> bool {
-    match (order, want) {
-        (Some(order), Some(call)) => is_order_of(&order, call),
-        (None, None) => true,
-        _ => false,
-    }
-}
-
 fn bytes_of<'a>(told: &Result<&'a str, Fault>) -> Result<&'a [u8], Fault> {
     match told {
         Ok(text) => Ok(text.as_bytes()),
@@ -76,7 +68,11 @@ fn is_taken(
     step: &Step,
 ) -> Result<bool, Fail> {
     match step {
-        Step::Orders(moment, want) => Ok(is_ordered(desk.next(at(*moment)), want)),
+        Step::Orders(moment, want) => match (desk.next(at(*moment)), want) {
+            (Some(order), Some(call)) => Ok(is_order_of(&order, call)),
+            (None, None) => Ok(true),
+            _ => Ok(false),
+        },
         Step::Answers(moment, told) => {
             desk.answer(at(*moment), bytes_of(told));
             Ok(true)
@@ -137,22 +133,6 @@ fn is_done_by(rt: &HostRuntime, caller: &mut UnixStream, step: &Step) -> Result<
     }
 }
 
-fn take_steps(
-    rt: &HostRuntime,
-    path: &str,
-    callers: &mut Vec<UnixStream>,
-    steps: &[Step],
-) -> Result<(), Fail> {
-    let mut desk = Desk::open(rt, path)?;
-    for step in steps {
-        if !is_taken(rt, path, &mut desk, callers, step)? {
-            return Err(Fail::new(format_args!("{step:?}")));
-        }
-    }
-    desk.close(rt);
-    Ok(())
-}
-
 /// Takes steps at a path, and those of callers behind the end of the desk.
 pub(super) fn play(
     rt: &HostRuntime,
@@ -161,10 +141,16 @@ pub(super) fn play(
     behind: &[Step],
 ) -> Result<(), Fail> {
     let mut callers = Vec::new(rt.alloc());
-    take_steps(rt, path, &mut callers, steps)?;
+    let mut desk = Desk::open(rt, path)?;
+    for step in steps {
+        if !is_taken(rt, path, &mut desk, &mut callers, step)? {
+            return Err(Fail::new(format_args!("{path}: {step:?}")));
+        }
+    }
+    desk.close(rt);
     for step in behind {
         if !is_done(rt, &mut callers, step)? {
-            return Err(Fail::new(format_args!("{step:?}")));
+            return Err(Fail::new(format_args!("{path}: {step:?}")));
         }
     }
     Ok(())

@@ -9,6 +9,7 @@ use std::test::Fail;
 
 const LONG: u64 = 60_000;
 
+// Who is there is told, and what comes.
 const ONE: [Step; 16] = [
     Connects(0),
     Tells(5, 3, Told::Joined),
@@ -28,11 +29,6 @@ const ONE: [Step; 16] = [
     Hears(0, 2),
 ];
 
-#[test]
-fn tells_who_is_there_and_what_comes(rt: HostRuntime) -> Result<(), Fail> {
-    take_steps(&rt, 0, Allowed(9, 9, LONG, LONG, LONG), &ONE)
-}
-
 // Who asks for one turn after the other is told so, and is waited for twice between two waitings.
 const ASKS_ON: [Step; 12] = [
     Connects(0),
@@ -48,11 +44,6 @@ const ASKS_ON: [Step; 12] = [
     Again(0),
     HasMore(true),
 ];
-
-#[test]
-fn waits_twice_for_who_asks_on(rt: HostRuntime) -> Result<(), Fail> {
-    take_steps(&rt, 0, Allowed(9, 9, LONG, LONG, LONG), &ASKS_ON)
-}
 
 // Of three long messages two have room. The third is not read before the first is answered.
 const THREE_LONG: [Step; 20] = [
@@ -78,11 +69,6 @@ const THREE_LONG: [Step; 20] = [
     Reads(2, 90_000, Read::Waits),
 ];
 
-#[test]
-fn reads_as_many_long_messages_as_there_is_room_for(rt: HostRuntime) -> Result<(), Fail> {
-    take_steps(&rt, 0, Allowed(9, 170_000, LONG, LONG, LONG), &THREE_LONG)
-}
-
 // Behind one that waits for room nobody is let in before it, though there is room for a shorter
 // one.
 const SHORTER_BEHIND: [Step; 19] = [
@@ -107,16 +93,6 @@ const SHORTER_BEHIND: [Step; 19] = [
     Reads(2, 66_000, Read::Waits),
 ];
 
-#[test]
-fn gives_room_in_order(rt: HostRuntime) -> Result<(), Fail> {
-    take_steps(
-        &rt,
-        0,
-        Allowed(9, 140_000, LONG, LONG, LONG),
-        &SHORTER_BEHIND,
-    )
-}
-
 // Where no head has come, 64 kB are read, and of a short message no more.
 const NO_HEAD: [Step; 6] = [
     Connects(70_000),
@@ -126,11 +102,6 @@ const NO_HEAD: [Step; 6] = [
     Reads(0, 65_536, Read::Waits),
     Reads(0, 0, Read::Waits),
 ];
-
-#[test]
-fn reads_little_where_no_length_is_known(rt: HostRuntime) -> Result<(), Fail> {
-    take_steps(&rt, 0, Allowed(9, 170_000, LONG, LONG, LONG), &NO_HEAD)
-}
 
 // Who waits for room has all the time. His own begins with the room, here that of one who went.
 const WAITS_FOR_ROOM: [Step; 16] = [
@@ -152,16 +123,6 @@ const WAITS_FOR_ROOM: [Step; 16] = [
     Tells(2, 5, Told::Late(1)),
 ];
 
-#[test]
-fn gives_time_with_the_room(rt: HostRuntime) -> Result<(), Fail> {
-    take_steps(
-        &rt,
-        150,
-        Allowed(9, 100_000, LONG, 300, LONG),
-        &WAITS_FOR_ROOM,
-    )
-}
-
 // A message longer than all room has all of it, and its time. It keeps nobody waiting for ever.
 const LONGER_THAN_ALL: [Step; 14] = [
     Connects(80_000),
@@ -180,12 +141,46 @@ const LONGER_THAN_ALL: [Step; 14] = [
     Reads(1, 68_000, Read::Waits),
 ];
 
-#[test]
-fn lets_a_message_go_that_is_longer_than_all_room(rt: HostRuntime) -> Result<(), Fail> {
-    take_steps(
-        &rt,
+/// What is done, the ticks of the clock, what is allowed, and the steps.
+const ALL: [(&str, u64, Allowed, &[Step]); 7] = [
+    ("one", 0, Allowed(9, 9, LONG, LONG, LONG), &ONE),
+    ("asks on", 0, Allowed(9, 9, LONG, LONG, LONG), &ASKS_ON),
+    (
+        "three long ones",
+        0,
+        Allowed(9, 170_000, LONG, LONG, LONG),
+        &THREE_LONG,
+    ),
+    (
+        "a shorter one behind",
+        0,
+        Allowed(9, 140_000, LONG, LONG, LONG),
+        &SHORTER_BEHIND,
+    ),
+    (
+        "no head",
+        0,
+        Allowed(9, 170_000, LONG, LONG, LONG),
+        &NO_HEAD,
+    ),
+    (
+        "waits for room",
+        150,
+        Allowed(9, 100_000, LONG, 300, LONG),
+        &WAITS_FOR_ROOM,
+    ),
+    (
+        "longer than all room",
         150,
         Allowed(9, 70_000, LONG, 300, LONG),
         &LONGER_THAN_ALL,
-    )
+    ),
+];
+
+#[test]
+fn reads_and_writes_in_turns(rt: HostRuntime) -> Result<(), Fail> {
+    for (what, ticks, allowed, steps) in ALL {
+        take_steps(&rt, what, ticks, allowed, steps)?;
+    }
+    Ok(())
 }

@@ -22,11 +22,6 @@ const SENDS_MORE: [Step; 9] = [
     Hears(0, 3),
 ];
 
-#[test]
-fn reads_on_behind_a_last_reply(rt: HostRuntime) -> Result<(), Fail> {
-    take_steps(&rt, 0, Allowed(9, 9, LONG, LONG, LONG), &SENDS_MORE)
-}
-
 // Who sends on is dropped behind a second.
 const SENDS_ON: [Step; 6] = [
     Connects(0),
@@ -36,11 +31,6 @@ const SENDS_ON: [Step; 6] = [
     Tells(1, 3, Told::Nothing),
     IsReset(0),
 ];
-
-#[test]
-fn reads_on_for_a_second(rt: HostRuntime) -> Result<(), Fail> {
-    take_steps(&rt, 1_000, Allowed(9, 9, LONG, LONG, LONG), &SENDS_ON)
-}
 
 // Where nobody else is left whose turn it is, nothing is waited for: so it was said.
 const LEFT_ALONE: [Step; 20] = [
@@ -67,6 +57,9 @@ const LEFT_ALONE: [Step; 20] = [
 ];
 
 #[test]
-fn waits_for_nothing_where_turns_were_left(rt: HostRuntime) -> Result<(), Fail> {
-    take_steps(&rt, 0, Allowed(9, 9, LONG, LONG, LONG), &LEFT_ALONE)
+fn reads_on_behind_a_last_reply(rt: HostRuntime) -> Result<(), Fail> {
+    let allowed = Allowed(9, 9, LONG, LONG, LONG);
+    take_steps(&rt, "sends more", 0, allowed, &SENDS_MORE)?;
+    take_steps(&rt, "sends on", 1_000, allowed, &SENDS_ON)?;
+    take_steps(&rt, "left alone", 0, allowed, &LEFT_ALONE)
 }

@@ -11,6 +11,7 @@ const LONG: u64 = 60_000;
 
 const SHORT: u64 = 200;
 
+// Who is silent is let go.
 const SILENT: [Step; 7] = [
     Connects(0),
     Tells(0, 3, Told::Joined),
@@ -21,12 +22,7 @@ const SILENT: [Step; 7] = [
     Hears(0, 0),
 ];
 
-#[test]
-fn lets_a_silent_client_go(rt: HostRuntime) -> Result<(), Fail> {
-    take_steps(&rt, 150, Allowed(9, 9, SHORT, LONG, LONG), &SILENT)
-}
-
-// The second byte gives no more time.
+// So is one whose message takes too long. The second byte gives no more time.
 const SLOW: [Step; 9] = [
     Connects(1),
     Tells(0, 3, Told::Joined),
@@ -38,11 +34,6 @@ const SLOW: [Step; 9] = [
     Tells(1, 1, Told::Late(0)),
     Closes(0),
 ];
-
-#[test]
-fn lets_a_client_go_whose_message_takes_too_long(rt: HostRuntime) -> Result<(), Fail> {
-    take_steps(&rt, 150, Allowed(9, 9, LONG, SHORT, LONG), &SLOW)
-}
 
 // Nor is who was told as ready, until it has its turn.
 const TOLD: [Step; 18] = [
@@ -66,11 +57,6 @@ const TOLD: [Step; 18] = [
     Tells(2, 1, Told::Ready(1)),
 ];
 
-#[test]
-fn keeps_a_client_that_was_told(rt: HostRuntime) -> Result<(), Fail> {
-    take_steps(&rt, 45, Allowed(9, 9, LONG, SHORT, LONG), &TOLD)
-}
-
 // An hour that something else took makes nobody late.
 const STALLED: [Step; 6] = [
     Connects(1),
@@ -81,14 +67,9 @@ const STALLED: [Step; 6] = [
     Tells(1, 1, Told::Nothing),
 ];
 
-#[test]
-fn counts_no_stall(rt: HostRuntime) -> Result<(), Fail> {
-    take_steps(&rt, 0, Allowed(9, 9, SHORT, SHORT, SHORT), &STALLED)
-}
-
 // Where there are as many as there may be, a new one waits until one is between messages, and that
 // one goes.
-const THREE: [Step; 13] = [
+const THREE: [Step; 14] = [
     Connects(1),
     Connects(1),
     Connects(0),
@@ -102,15 +83,8 @@ const THREE: [Step; 13] = [
     Writes(1, 1, Written::Took(1)),
     Tells(2, 3, Told::Late(1)),
     Closes(1),
+    Tells(2, 3, Told::Joined),
 ];
-
-#[test]
-fn takes_so_many_clients(rt: HostRuntime) -> Result<(), Fail> {
-    let mut steps = Vec::new(rt.alloc());
-    steps.extend_from_slice(&THREE)?;
-    steps.push(Tells(2, 3, Told::Joined))?;
-    take_steps(&rt, 0, Allowed(2, 9, LONG, LONG, LONG), &steps)
-}
 
 // Who cannot be taken in is dropped: here since there is no number for it. However many are, that
 // is told once, and once that all who waited are accepted again.
@@ -128,7 +102,25 @@ const CANNOT_JOIN: [Step; 11] = [
     WasTold(2, 2),
 ];
 
+/// Who is there, the ticks of the clock, what is allowed, and the steps.
+const ALL: [(&str, u64, Allowed, &[Step]); 6] = [
+    ("silent", 150, Allowed(9, 9, SHORT, LONG, LONG), &SILENT),
+    ("slow", 150, Allowed(9, 9, LONG, SHORT, LONG), &SLOW),
+    ("told", 45, Allowed(9, 9, LONG, SHORT, LONG), &TOLD),
+    ("stalled", 0, Allowed(9, 9, SHORT, SHORT, SHORT), &STALLED),
+    ("three", 0, Allowed(2, 9, LONG, LONG, LONG), &THREE),
+    (
+        "cannot join",
+        150,
+        Allowed(9, 9, LONG, LONG, LONG),
+        &CANNOT_JOIN,
+    ),
+];
+
 #[test]
-fn tells_once_that_nobody_is_accepted(rt: HostRuntime) -> Result<(), Fail> {
-    take_steps(&rt, 150, Allowed(9, 9, LONG, LONG, LONG), &CANNOT_JOIN)
+fn keeps_to_its_limits(rt: HostRuntime) -> Result<(), Fail> {
+    for (who, ticks, allowed, steps) in ALL {
+        take_steps(&rt, who, ticks, allowed, steps)?;
+    }
+    Ok(())
 }

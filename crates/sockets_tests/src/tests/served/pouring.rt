@@ -6,7 +6,7 @@ use std::test::Fail;
 const LONG: u64 = 60_000;
 
 // What was written of a reply, how much of it came, and how often it was waited for.
-#[derive(Clone, Copy, Debug, PartialEq, Eq)]
+#[derive(Clone, Copy)]
 struct Poured {
     sent: usize,
     came: usize,
@@ -55,20 +55,6 @@ fn set_waiting(scene: &Scene<'_>, do_wait: bool) -> Result<(), Fail> {
     Ok(())
 }
 
-// What is written of a reply to one that has just come, and how much came in the end.
-fn pour_to_one(rt: &HostRuntime, scene: &mut Scene<'_>, reply: &[u8]) -> Result<Poured, Fail> {
-    scene.connect(rt, 0)?;
-    set_waiting(scene, false)?;
-    if scene.told(0, 3) != Told::Joined {
-        return Err(Fail::new(format_args!("nobody has joined")));
-    }
-    let mut poured = pour_all(scene, reply)?;
-    scene.sockets.close(0);
-    set_waiting(scene, true)?;
-    poured.came = poured.came.saturating_add(scene.hear(0)?);
-    Ok(poured)
-}
-
 #[test]
 fn writes_a_great_reply_by_and_by(rt: HostRuntime) -> Result<(), Fail> {
     let mut reply = Vec::new(rt.alloc());
@@ -77,7 +63,13 @@ fn writes_a_great_reply_by_and_by(rt: HostRuntime) -> Result<(), Fail> {
     let clock = Ticking::new(0);
     let notes = Notes::new();
     let mut scene = Scene::new(&rt, &clock, &notes, Allowed(9, 9, LONG, LONG, LONG))?;
-    let Poured { sent, came, waits } = pour_to_one(&rt, &mut scene, &reply)?;
+    scene.connect(&rt, 0)?;
+    set_waiting(&scene, false)?;
+    assert!(rt; scene.told(0, 3) == Told::Joined);
+    let Poured { sent, came, waits } = pour_all(&mut scene, &reply)?;
+    scene.sockets.close(0);
+    set_waiting(&scene, true)?;
+    let came = came.saturating_add(scene.hear(0)?);
     assert!(rt; waits > 0 && notes.answered() == (1, 0));
     assert_eq!(rt; (sent, came), (8_000_000, 8_000_000));
     Ok(())

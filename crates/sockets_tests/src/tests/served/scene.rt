@@ -44,22 +44,24 @@ impl Clock for Ticking {
 #[derive(Drop)]
 pub struct Notes {
     /// How often that nobody is accepted.
-    short: Cell<u64>,
+    pub short: Cell<u64>,
     /// How often that all who waited are accepted again.
-    accepting: Cell<u64>,
+    pub accepting: Cell<u64>,
     /// How often that something may have come at what is watched.
-    rung: Cell<u64>,
+    pub rung: Cell<u64>,
     /// How many clients there are, and were.
-    counts: Cell<Counts>,
+    pub counts: Cell<Counts>,
     /// How many replies were begun.
     replies: Cell<u64>,
     /// How many messages were answered in rounds.
     shared: Cell<u64>,
     /// How many batches of accounts and of transfers were answered.
-    batches: Cell<(u64, u64)>,
-    longest_turn: Cell<Duration>,
-    is_busy: Cell<bool>,
-    is_stopping: Cell<bool>,
+    pub batches: Cell<(u64, u64)>,
+    pub longest_turn: Cell<Duration>,
+    /// Whether a call of its own is being read.
+    pub is_busy: Cell<bool>,
+    /// Whether no more is to be begun.
+    pub is_stopping: Cell<bool>,
 }
 
 impl Notes {
@@ -83,49 +85,9 @@ impl Notes {
         }
     }
 
-    /// How often it was told that nobody is accepted, and that all who waited are again.
-    pub fn told(&self) -> (u64, u64) {
-        (self.short.get(), self.accepting.get())
-    }
-
-    /// How often something may have come at what is watched.
-    pub fn rung(&self) -> u64 {
-        self.rung.get()
-    }
-
-    /// How many are connected, were at most, were taken in and were late, as it was told last.
-    pub fn counted(&self) -> (u64, u64, u64, u64) {
-        let counts = self.counts.get();
-        (
-            counts.connected,
-            counts.most_connected,
-            counts.accepted,
-            counts.late,
-        )
-    }
-
     /// How many replies were begun, and how many messages answered in rounds.
     pub fn answered(&self) -> (u64, u64) {
         (self.replies.get(), self.shared.get())
-    }
-
-    /// How many batches of accounts and of transfers were answered.
-    pub fn batches(&self) -> (u64, u64) {
-        self.batches.get()
-    }
-
-    pub fn longest_turn(&self) -> Duration {
-        self.longest_turn.get()
-    }
-
-    /// A call of its own is being read from now on.
-    pub fn begin_call(&self) {
-        self.is_busy.set(true);
-    }
-
-    /// No more is to be begun from now on.
-    pub fn stop(&self) {
-        self.is_stopping.set(true);
     }
 }
 
@@ -177,7 +139,7 @@ impl Operator for Notes {
 
 /// What is allowed: so many clients, so many bytes of long messages, and so many milliseconds
 /// silent, in a message and in a reply.
-#[derive(Clone, Copy, Debug)]
+#[derive(Clone, Copy)]
 pub struct Allowed(pub usize, pub usize, pub u64, pub u64, pub u64);
 
 /// Those who are connected, and the clients at the other end.

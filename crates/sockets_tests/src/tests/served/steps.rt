@@ -42,9 +42,11 @@ pub enum Step {
     Stops,
 }
 
-/// Takes steps, by a clock that goes on so many milliseconds each time that it is asked.
+/// Takes steps of what has a name, by a clock that goes on so many milliseconds each time that it
+/// is asked.
 pub fn take_steps(
     rt: &HostRuntime,
+    what: &str,
     ticks: u64,
     allowed: Allowed,
     steps: &[Step],
@@ -54,7 +56,7 @@ pub fn take_steps(
     let mut scene = Scene::new(rt, &clock, &notes, allowed)?;
     for step in steps {
         if !is_taken(rt, &clock, &notes, &mut scene, *step)? {
-            return Err(Fail::new(format_args!("{step:?}")));
+            return Err(Fail::new(format_args!("{what}: {step:?}")));
         }
     }
     Ok(())
@@ -69,10 +71,17 @@ fn is_taken(
     step: Step,
 ) -> Result<bool, Fail> {
     match step {
-        Step::WasTold(short, accepting) => Ok(notes.told() == (short, accepting)),
-        Step::Counts(now, most, all, late) => Ok(notes.counted() == (now, most, all, late)),
+        Step::WasTold(short, accepting) => {
+            Ok((notes.short.get(), notes.accepting.get()) == (short, accepting))
+        }
+        Step::Counts(now, most, all, late) => {
+            let counts = notes.counts.get();
+            let (connected, accepted) = (counts.connected, counts.accepted);
+            let told = (connected, counts.most_connected, accepted, counts.late);
+            Ok(told == (now, most, all, late))
+        }
         Step::Stops => {
-            notes.stop();
+            notes.is_stopping.set(true);
             Ok(true)
         }
         Step::Wants(client, bytes) => {

@@ -32,11 +32,6 @@ const SENT_BEFORE: [Step; 20] = [
     Tells(2, 9, Told::Nothing),
 ];
 
-#[test]
-fn serves_who_had_sent_something(rt: HostRuntime) -> Result<(), Fail> {
-    take_steps(&rt, 0, Allowed(9, 9, LONG, LONG, LONG), &SENT_BEFORE)
-}
-
 // Behind its end nobody is served, whoever asks for a turn.
 const ENDED: [Step; 10] = [
     Connects(2),
@@ -52,29 +47,14 @@ const ENDED: [Step; 10] = [
 ];
 
 #[test]
-fn serves_nobody_behind_the_end(rt: HostRuntime) -> Result<(), Fail> {
-    take_steps(&rt, 0, Allowed(9, 9, LONG, LONG, LONG), &ENDED)
+fn serves_who_had_sent_something_and_then_nobody(rt: HostRuntime) -> Result<(), Fail> {
+    let allowed = Allowed(9, 9, LONG, LONG, LONG);
+    take_steps(&rt, "sent before", 0, allowed, &SENT_BEFORE)?;
+    take_steps(&rt, "ended", 0, allowed, &ENDED)
 }
 
-// How many turns a client has that comes before the end, asks for another in each and sends on,
-// until nothing is told.
-fn turns_of_one(rt: &HostRuntime, scene: &mut Scene<'_>, notes: &Notes) -> Result<usize, Fail> {
-    scene.connect(rt, 10)?;
-    if scene.told(0, 3) != Told::Joined {
-        return Err(Fail::new(format_args!("nobody has joined")));
-    }
-    notes.stop();
-    for turns in 0..100 {
-        if scene.sockets.told(1) != Told::Ready(0) {
-            return Ok(turns);
-        }
-        scene.send(rt, 0, 10)?;
-        let _ = scene.read_all(0);
-        scene.sockets.again(0);
-    }
-    Ok(100)
-}
-
+// A client that comes before the end asks for another turn in each and sends on, until nothing is
+// told.
 // The clock goes on by 150 milliseconds where it is asked: in less than seven turns a second
 // passes.
 #[test]
@@ -82,7 +62,19 @@ fn ends_behind_a_second_though_one_sends_on(rt: HostRuntime) -> Result<(), Fail>
     let clock = Ticking::new(150);
     let notes = Notes::new();
     let mut scene = Scene::new(&rt, &clock, &notes, Allowed(9, 9, LONG, LONG, LONG))?;
-    let turns = turns_of_one(&rt, &mut scene, &notes)?;
+    scene.connect(&rt, 10)?;
+    assert!(rt; scene.told(0, 3) == Told::Joined);
+    notes.is_stopping.set(true);
+    let mut turns: u32 = 0;
+    for _ in 0..100 {
+        if scene.sockets.told(1) != Told::Ready(0) {
+            break;
+        }
+        scene.send(&rt, 0, 10)?;
+        let _ = scene.read_all(0);
+        scene.sockets.again(0);
+        turns = turns.saturating_add(1);
+    }
     assert!(rt; turns > 3 && turns < 8 && scene.told(1, 9) == Told::Nothing);
     Ok(())
 }
@@ -100,18 +92,6 @@ fn fill(scene: &mut Scene<'_>, reply: &[u8]) -> usize {
         }
     }
     sent
-}
-
-// Client 0 has not taken all of a reply when it is asked to stop.
-fn begin_reply(rt: &HostRuntime, scene: &mut Scene<'_>, reply: &[u8]) -> Result<usize, Fail> {
-    scene.connect(rt, 0)?;
-    for client in &scene.clients {
-        client.set_nonblocking(true)?;
-    }
-    if scene.told(0, 3) != Told::Joined || scene.told(1, 3) != Told::Ready(0) {
-        return Err(Fail::new(format_args!("nobody has joined")));
-    }
-    Ok(fill(scene, reply))
 }
 
 // Writes on while client 0 is told to be ready, and says how much is taken of a reply in all. It
@@ -132,7 +112,8 @@ fn write_on(scene: &mut Scene<'_>, reply: &[u8], taken: usize, reads: bool) -> R
     Ok(sent)
 }
 
-// How much is taken of a reply before it is asked to stop, and in all.
+// How much is taken of a reply before it is asked to stop, when client 0 has not taken all, and in
+// all.
 fn write_all(
     rt: &HostRuntime,
     scene: &mut Scene<'_>,
@@ -140,8 +121,15 @@ fn write_all(
     reads: bool,
 ) -> Result<(usize, usize), Fail> {
     let reply = Vec::from_elem(rt.alloc(), 9u8, 8_000_000)?;
-    let taken = begin_reply(rt, scene, &reply)?;
-    notes.stop();
+    scene.connect(rt, 0)?;
+    for client in &scene.clients {
+        client.set_nonblocking(true)?;
+    }
+    if scene.told(0, 3) != Told::Joined || scene.told(1, 3) != Told::Ready(0) {
+        return Err(Fail::new(format_args!("nobody has joined")));
+    }
+    let taken = fill(scene, &reply);
+    notes.is_stopping.set(true);
     Ok((taken, write_on(scene, &reply, taken, reads)?))
 }
 

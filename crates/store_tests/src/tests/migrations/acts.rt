@@ -43,16 +43,19 @@ pub fn act_on<D: Disk + Drop>(
             migrates(rt, alloc, files, *to, &(*answer, *version))
         }
         Act::Serves(to, want) => serves(rt, alloc, files, *to, *want),
-        Act::Runs(sql) => run(alloc, files, sql),
+        Act::Runs(sql) => Ok(changed(alloc, files, &[sql])?),
         Act::Counts(texts) => counted(rt, alloc, files, texts),
         Act::IsRefused(fault) => refused(rt, opened(alloc, files), *fault),
-        Act::IsDamaged(kind) => refused(rt, opened(alloc, files), damaged(*kind)),
+        Act::IsDamaged(kind) => {
+            let damage = Damage {
+                kind: *kind,
+                digest: DIGEST,
+                place: 0,
+            };
+            refused(rt, opened(alloc, files), OpenFault::Damaged(damage))
+        }
         Act::GoesOn => went_on(rt, alloc, files),
     }
-}
-
-fn run<D: Disk + Drop>(alloc: Global, files: Files<D>, sql: &str) -> Result<Files<D>, Fail> {
-    Ok(changed(alloc, files, &[sql])?)
 }
 
 fn counted<D: Disk + Drop>(
@@ -76,14 +79,6 @@ fn asked<S: Alter + Drop>(
         assert_eq!(rt; told, *want, "{sql}");
     }
     Ok(conn.into_store())
-}
-
-fn damaged(kind: DamageKind) -> OpenFault {
-    OpenFault::Damaged(Damage {
-        kind,
-        digest: DIGEST,
-        place: 0,
-    })
 }
 
 fn refused<T: Drop, D: Disk + Drop>(

@@ -32,14 +32,9 @@ pub fn changed<D: Disk + Drop>(
 /// Runs statements, and ends the connection.
 pub fn executed<S: Alter + Drop>(mut conn: Connection<S>, statements: &[&str]) -> Result<S, Error> {
     for sql in statements {
-        execute(&mut conn, sql)?;
+        conn.execute(sql, &[])?;
     }
     Ok(conn.into_store())
-}
-
-/// Runs a statement, and tells how many rows it has changed.
-fn execute<S: Alter>(conn: &mut Connection<S>, sql: &str) -> Result<usize, Error> {
-    conn.execute(sql, &[])
 }
 
 /// The number that a text answers.

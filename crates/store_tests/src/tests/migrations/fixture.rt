@@ -58,11 +58,7 @@ pub fn in_memory(alloc: Global) -> Result<Files<Memory>, Error> {
 /// Empty files in memory.
 pub fn empty(alloc: Global) -> Files<Memory> {
     Files {
-        log: disk(alloc),
-        db: disk(alloc),
+        log: Memory::new(alloc),
+        db: Memory::new(alloc),
     }
-}
-
-fn disk(alloc: Global) -> Memory {
-    Memory::new(alloc)
 }

@@ -29,10 +29,6 @@ fn account(id: u8, flags: i64) -> AccountCells {
     }
 }
 
-fn accounts(alloc: Global) -> Result<Vec<AccountCells>, AllocError> {
-    Ok(vec![in alloc; account(1, 0), account(2, 0), account(3, 10), account(4, 0)]?)
-}
-
 fn pending() -> TransferCells {
     TransferCells {
         id: column(100),
@@ -52,52 +48,11 @@ fn pending() -> TransferCells {
     }
 }
 
-fn no_balance(id: u8) -> BalanceCells {
-    BalanceCells {
-        account: column(id),
-        dp: column(0),
-        dd: column(0),
-        cp: column(0),
-        cc: column(0),
-    }
-}
-
-fn balances(alloc: Global) -> Result<Vec<BalanceCells>, AllocError> {
-    Ok(vec![in alloc; no_balance(1), no_balance(2), no_balance(3), no_balance(4)]?)
-}
-
-fn status() -> StatusCells {
-    StatusCells {
-        transfer: column(100),
-        state: 3,
-        due: CLOCK,
-    }
-}
-
-// The balances of accounts 1 and 2 after transfer 100.
-fn history(alloc: Global) -> Result<Vec<HistoryCells>, AllocError> {
-    let debit = HistoryCells {
-        account: column(1),
-        timestamp: 5,
-        dp: column(100),
-        dd: column(0),
-        cp: column(0),
-        cc: column(0),
-    };
-    let credit = HistoryCells {
-        account: column(2),
-        dp: column(0),
-        cp: column(100),
-        ..debit
-    };
-    Ok(vec![in alloc; debit, credit]?)
-}
-
 // Posted too late: the post was refused at the clock, so that no more than the clock tells of it.
-fn list_rows(alloc: Global) -> Result<TenantRows, AllocError> {
+fn listed(alloc: Global) -> Result<TenantRows, AllocError> {
     Ok(TenantRows {
         clocks: vec![in alloc; CLOCK]?,
-        accounts: accounts(alloc)?,
+        accounts: vec![in alloc; account(1, 0), account(2, 0), account(3, 10), account(4, 0)]?,
         transfers: vec![in alloc; pending()]?,
         balances: Vec::new(alloc),
         statuses: Vec::new(alloc),
@@ -106,58 +61,74 @@ fn list_rows(alloc: Global) -> Result<TenantRows, AllocError> {
     })
 }
 
-fn balance_rows(alloc: Global) -> Result<TenantRows, AllocError> {
-    Ok(TenantRows {
-        balances: balances(alloc)?,
-        statuses: vec![in alloc; status()]?,
-        history: history(alloc)?,
-        ..list_rows(alloc)?
-    })
+// What newer versions have more: no balance has the transfer, and the history of accounts 1 and 2
+// keeps it.
+fn derive(rows: &mut TenantRows) -> Result<(), AllocError> {
+    for id in 1..5u8 {
+        rows.balances.push(BalanceCells {
+            account: column(id),
+            dp: column(0),
+            dd: column(0),
+            cp: column(0),
+            cc: column(0),
+        })?;
+    }
+    rows.statuses.push(StatusCells {
+        transfer: column(100),
+        state: 3,
+        due: CLOCK,
+    })?;
+    let debit = HistoryCells {
+        account: column(1),
+        timestamp: 5,
+        dp: column(100),
+        dd: column(0),
+        cp: column(0),
+        cc: column(0),
+    };
+    rows.history.push(debit)?;
+    rows.history.push(HistoryCells {
+        account: column(2),
+        dp: column(0),
+        cp: column(100),
+        ..debit
+    })?;
+    Ok(())
 }
 
 // Two tenants with the same rows.
 fn file(alloc: Global, version: u32) -> Result<AllRows, AllocError> {
-    Ok(AllRows {
+    let mut all = AllRows {
         version,
-        directory: vec![in alloc; named(alloc, 1, "tenant-1")?, named(alloc, 2, "tenant-2")?]?,
-        tenants: vec![in alloc; tenant(alloc, version, 1)?, tenant(alloc, version, 2)?]?,
-    })
-}
-
-fn named(alloc: Global, number: u8, name: &str) -> Result<DirectoryRow, AllocError> {
-    Ok(DirectoryRow {
-        number: i64::from(number),
-        name: String::from_str(alloc, name)?,
-        digest: [number; 32],
-    })
-}
-
-fn tenant(alloc: Global, version: u32, number: u8) -> Result<TenantOfDigest, AllocError> {
-    let rows = if version == 1 {
-        list_rows(alloc)?
-    } else {
-        balance_rows(alloc)?
+        directory: Vec::new(alloc),
+        tenants: Vec::new(alloc),
     };
-    Ok(TenantOfDigest {
-        digest: [number; 32],
-        rows,
-    })
-}
-
-fn migrated(alloc: Global, from: u32, to: u32) -> Result<AllRows, Fail> {
-    let rows = file(alloc, from)?;
-    check(alloc, &rows)?;
-    if 3 <= rows.version {
-        return Err(Fail::new("there is no newer version"));
+    for (number, name) in [(1, "tenant-1"), (2, "tenant-2")] {
+        all.directory.push(DirectoryRow {
+            number: i64::from(number),
+            name: String::from_str(alloc, name)?,
+            digest: [number; 32],
+        })?;
+        let mut rows = listed(alloc)?;
+        if version > 1 {
+            derive(&mut rows)?;
+        }
+        all.tenants.push(TenantOfDigest {
+            digest: [number; 32],
+            rows,
+        })?;
     }
-    Ok(rows_in_version(alloc, rows, to)?)
+    Ok(all)
 }
 
 // What has expired is told so, with its due time; the history keeps it, and no balance has it.
 #[test]
 fn an_expired_transfer_is_migrated(rt: HostRuntime) -> Result<(), Fail> {
     for (from, to) in [(1, 2), (1, 3), (2, 3)] {
-        let newer = migrated(rt.alloc(), from, to)?;
+        let rows = file(rt.alloc(), from)?;
+        check(rt.alloc(), &rows)?;
+        assert!(rt; rows.version < 3);
+        let newer = rows_in_version(rt.alloc(), rows, to)?;
         assert!(rt; newer == file(rt.alloc(), to)?);
         assert!(rt; check(rt.alloc(), &newer).is_ok());
     }

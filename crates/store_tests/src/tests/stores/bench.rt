@@ -91,7 +91,10 @@ impl<D: Faulty> Bench<D> {
             "create" => made(self.alloc, files, self.options),
             "open" => opened(self.alloc, files, self.options, &FullAudit),
             "audit-without-memory" => opened(self.alloc, files, self.options, &NoMemory),
-            "sql" => changed_by(self.alloc, files, rest),
+            "sql" => {
+                let (files, told) = changed(self.alloc, files, rest);
+                (Ledger::Closed(files), shown(self.alloc, &told))
+            }
             _ => shut(self.alloc, files, verb),
         }
     }
@@ -123,11 +126,6 @@ fn opened<D: Disk + Drop, A: Audit>(
         Ok(store) => (Ledger::Opened(store), said(alloc, "opened")),
         Err((fault, files)) => (Ledger::Closed(files), fault_shown(alloc, fault)),
     }
-}
-
-fn changed_by<D: Disk + Drop>(alloc: Global, files: Files<D>, sql: &str) -> (Ledger<D>, Text) {
-    let (files, told) = changed(alloc, files, sql);
-    (Ledger::Closed(files), shown(alloc, &told))
 }
 
 /// Files that are closed: as they were, after a crash, or those of a stranger.

@@ -112,10 +112,8 @@ pub fn put_word(text: &mut String, word: String) -> Result<(), AllocError> {
 pub fn answer<D: Disk + Drop>(store: &mut Driven<D>, command: &Command<'_>) -> Text {
     match command.verb {
         "accounts" => open(store, command),
-        "transfers" => send(store, command),
+        "transfers" | "ones" | "fail" => send(store, command),
         "both" => send_both(store, command),
-        "ones" => fill(store, command),
-        "fail" => fail(store, command),
         "see" => see(store, command),
         "add" | "key" | "digest" => of_name(store, command),
         _ => of_all(store, command),
@@ -126,8 +124,12 @@ pub fn answer<D: Disk + Drop>(store: &mut Driven<D>, command: &Command<'_>) -> T
 fn of_all<D: Disk + Drop>(store: &mut Driven<D>, command: &Command<'_>) -> Text {
     let alloc = command.alloc;
     match command.verb {
-        "rows" => table(alloc, store.rows_of(&command.digest()), command.rest),
-        "directory" => directory(alloc, store.all_rows()),
+        "rows" => table(
+            alloc,
+            store.ledgers.backend.rows_of(&command.digest()),
+            command.rest,
+        ),
+        "directory" => directory(alloc, store.ledgers.backend.all_rows()),
         "knows" => shown(alloc, &store.knows(&command.digest())),
         "ready" => shown(alloc, &store.is_ready()),
         "reopen" => shown(alloc, &store.reopen(&FullAudit)),
@@ -149,11 +151,17 @@ fn of_name<D: Disk + Drop>(store: &mut Driven<D>, command: &Command<'_>) -> Text
         return said(command.alloc, "no name");
     };
     if command.verb == "digest" {
-        return shown(command.alloc, &store.digest_of(&name).map(first_byte));
+        return shown(
+            command.alloc,
+            &store.ledgers.backend.digest_of(&name).map(first_byte),
+        );
     }
     let digest = [command.rest.parse().unwrap_or(0); 32];
     if command.verb == "key" {
-        return shown(command.alloc, &store.change_key(&name, &digest));
+        return shown(
+            command.alloc,
+            &store.ledgers.backend.change_key(&name, &digest),
+        );
     }
     shown(command.alloc, &store.add(&name, &digest))
 }
@@ -175,44 +183,27 @@ fn open<D: Disk + Drop>(store: &mut Driven<D>, command: &Command<'_>) -> Text {
     told(alloc, store.run(&command.digest(), opening))
 }
 
-/// Sends a batch of transfers.
+/// Sends a batch of transfers, or `ones`, of which it tells whether they were run: transfers of 1
+/// with the ids from a first one, before a last. One that is to `fail` wants memory at its end.
 fn send<D: Disk + Drop>(store: &mut Driven<D>, command: &Command<'_>) -> Text {
     let alloc = command.alloc;
     let (moment, events) = command.batch();
-    let transfers = transfers(alloc, events)?;
+    let transfers = if command.verb == "ones" {
+        let (first, last) = events.split_once(' ').unwrap_or(("", ""));
+        ones(alloc, first.parse().unwrap_or(0), last.parse().unwrap_or(0))?
+    } else {
+        transfers(alloc, events)?
+    };
     let sending = Sending {
         alloc,
         transfers: &transfers,
         moment,
     };
-    told(alloc, store.run(&command.digest(), sending))
-}
-
-/// Sends transfers of 1 with the ids from a first one, before a last, and tells whether they were
-/// run.
-fn fill<D: Disk + Drop>(store: &mut Driven<D>, command: &Command<'_>) -> Text {
-    let alloc = command.alloc;
-    let (first, last) = command.rest.split_once(' ').unwrap_or(("", ""));
-    let transfers = ones(alloc, first.parse().unwrap_or(0), last.parse().unwrap_or(0))?;
-    let sending = Sending {
-        alloc,
-        transfers: &transfers,
-        moment: 0,
-    };
-    shown(alloc, &store.run(&command.digest(), sending).is_ok())
-}
-
-/// Sends a batch of transfers that wants memory at its end.
-fn fail<D: Disk + Drop>(store: &mut Driven<D>, command: &Command<'_>) -> Text {
-    let alloc = command.alloc;
-    let (moment, events) = command.batch();
-    let transfers = transfers(alloc, events)?;
-    let sending = Sending {
-        alloc,
-        transfers: &transfers,
-        moment,
-    };
-    shown(alloc, &store.run(&command.digest(), Failing { sending }))
+    match command.verb {
+        "ones" => shown(alloc, &store.run(&command.digest(), sending).is_ok()),
+        "fail" => shown(alloc, &store.run(&command.digest(), Failing { sending })),
+        _ => told(alloc, store.run(&command.digest(), sending)),
+    }
 }
 
 /// A result that has a number.

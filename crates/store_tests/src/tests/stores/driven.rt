@@ -1,22 +1,19 @@
 //! A store in use, as tests call it.
 
-use super::taken_rows::TakenRows;
-use chain::{BatchFault, InUse, Ledgers, Listed, ReadFault, RoundWork, Rounds, Work};
-use records::{
-    AccountFilter, AccountWithBalances, BalanceAt, Order, StatementRow, Transfer, Unavailable,
-};
-use rows::{AllRows, TenantRows};
+use chain::{BatchFault, InUse, Ledgers, ReadFault, Work};
+use failing_streams::TakenRows;
+use records::{Order, StatementRow, Unavailable};
 use sqlite::{Files, Options};
 use sqlite_disk::{Disk, Start};
 use sqlite_std_file::FileFrom;
 use std::alloc::Global;
-use store::{AddTenant, Audit, ChangeKey, FullAudit, OpenFault, Overdue, Refused, Search, Store};
+use store::{AddTenant, Audit, FullAudit, OpenFault, Refused, Store};
 use tenants::TenantName;
 
 /// A store in use.
 #[derive(Drop)]
 pub struct Driven<D: Disk + Drop> {
-    store: InUse<Store<D>>,
+    pub ledgers: InUse<Store<D>>,
 }
 
 impl<D: Disk + Drop> Driven<D> {
@@ -30,7 +27,7 @@ impl<D: Disk + Drop> Driven<D> {
         }
         match Store::create(alloc, files, options) {
             Ok(backend) => Ok(Driven {
-                store: InUse { backend },
+                ledgers: InUse { backend },
             }),
             Err(refused) => Err(refused),
         }
@@ -47,7 +44,7 @@ impl<D: Disk + Drop> Driven<D> {
         }
         match Store::open(alloc, files, options, audit) {
             Ok(backend) => Ok(Driven {
-                store: InUse { backend },
+                ledgers: InUse { backend },
             }),
             Err(refused) => Err(refused),
         }
@@ -57,43 +54,19 @@ impl<D: Disk + Drop> Driven<D> {
     pub fn end(self) {}
 
     pub fn close(self) -> Files<D> {
-        self.store.into_backend().close()
+        self.ledgers.into_backend().close()
     }
 
     pub fn reopen<A: Audit>(&mut self, audit: &A) -> Result<(), Refused> {
-        self.store.backend.reopen(audit)
+        self.ledgers.backend.reopen(audit)
     }
 
     pub fn add(&mut self, name: &TenantName, digest: &[u8; 32]) -> Result<(), AddTenant> {
-        self.store.backend.add_tenant(name, digest)
-    }
-
-    pub fn change_key(&mut self, name: &TenantName, digest: &[u8; 32]) -> Result<(), ChangeKey> {
-        self.store.backend.change_key(name, digest)
-    }
-
-    pub fn digest_of(&mut self, name: &TenantName) -> Result<Option<[u8; 32]>, Unavailable> {
-        self.store.backend.digest_of(name)
+        self.ledgers.backend.add_tenant(name, digest)
     }
 
     pub fn knows(&mut self, digest: &[u8; 32]) -> Result<bool, Unavailable> {
-        self.store.knows(digest)
-    }
-
-    pub fn overdue(
-        &mut self,
-        search: &mut Search,
-        moment: u64,
-    ) -> Result<Option<Overdue>, Unavailable> {
-        self.store.backend.overdue(search, moment)
-    }
-
-    pub fn all_rows(&mut self) -> Result<AllRows, Unavailable> {
-        self.store.backend.all_rows()
-    }
-
-    pub fn rows_of(&mut self, digest: &[u8; 32]) -> Result<Option<TenantRows>, Unavailable> {
-        self.store.backend.rows_of(digest)
+        self.ledgers.knows(digest)
     }
 
     pub fn run<W: Work + Drop>(
@@ -104,47 +77,7 @@ impl<D: Disk + Drop> Driven<D> {
     where
         W::Output: Drop,
     {
-        self.store.in_batch(digest, work)
-    }
-
-    pub fn run_round<W: RoundWork + Drop>(&mut self, work: W) -> Result<W::Output, Unavailable> {
-        self.store.in_round(work)
-    }
-
-    pub fn lookup_accounts(
-        &mut self,
-        alloc: Global,
-        digest: &[u8; 32],
-        ids: &[u128],
-    ) -> Result<Listed<AccountWithBalances>, ReadFault> {
-        self.store.lookup_accounts(alloc, digest, ids)
-    }
-
-    pub fn lookup_transfers(
-        &mut self,
-        alloc: Global,
-        digest: &[u8; 32],
-        ids: &[u128],
-    ) -> Result<Listed<Transfer>, ReadFault> {
-        self.store.lookup_transfers(alloc, digest, ids)
-    }
-
-    pub fn history_transfers(
-        &mut self,
-        alloc: Global,
-        digest: &[u8; 32],
-        asked: &AccountFilter,
-    ) -> Result<Listed<Transfer>, ReadFault> {
-        self.store.history_transfers(alloc, digest, asked)
-    }
-
-    pub fn history_balances(
-        &mut self,
-        alloc: Global,
-        digest: &[u8; 32],
-        asked: &AccountFilter,
-    ) -> Result<Listed<BalanceAt>, ReadFault> {
-        self.store.history_balances(alloc, digest, asked)
+        self.ledgers.in_batch(digest, work)
     }
 
     /// The rows of a statement, as long as there is room for them, and how it ended.
@@ -154,16 +87,22 @@ impl<D: Disk + Drop> Driven<D> {
         digest: &[u8; 32],
         (account, order, room): (u128, Order, usize),
     ) -> (Vec<StatementRow>, Result<(), ReadFault>) {
-        let mut rows = TakenRows::new(alloc, room);
+        let mut rows = TakenRows {
+            taken: Vec::new(alloc),
+            room,
+        };
         let ended = self
-            .store
+            .ledgers
             .each_statement_row(alloc, digest, account, order, &mut rows);
         (rows.taken, ended)
     }
 
     /// Whether it answers calls, and the version of its schema.
     pub fn is_ready(&self) -> (bool, u32) {
-        (self.store.backend.is_ready(), self.store.backend.schema())
+        (
+            self.ledgers.backend.is_ready(),
+            self.ledgers.backend.schema(),
+        )
     }
 }
 
@@ -176,7 +115,7 @@ impl<St: Start> Driven<FileFrom<St>> {
     ) -> Result<Driven<FileFrom<St>>, OpenFault> {
         match Store::create_at(rt, path, start, options) {
             Ok(backend) => Ok(Driven {
-                store: InUse { backend },
+                ledgers: InUse { backend },
             }),
             Err((fault, _files)) => Err(fault),
         }
@@ -190,7 +129,7 @@ impl<St: Start> Driven<FileFrom<St>> {
     ) -> Result<Driven<FileFrom<St>>, OpenFault> {
         match Store::open_at(rt, path, start, options, &FullAudit) {
             Ok(backend) => Ok(Driven {
-                store: InUse { backend },
+                ledgers: InUse { backend },
             }),
             Err((fault, _files)) => Err(fault),
         }
@@ -205,7 +144,7 @@ impl<St: Start> Driven<FileFrom<St>> {
     ) -> Result<Driven<FileFrom<St>>, OpenFault> {
         match Store::open_at(rt, path, start, options, &FullAudit) {
             Ok(backend) => Ok(Driven {
-                store: InUse { backend },
+                ledgers: InUse { backend },
             }),
             Err((OpenFault::NotALedger, Some(files))) => {
                 Driven::make(rt.alloc(), files, options).map_err(|(fault, _files)| fault)

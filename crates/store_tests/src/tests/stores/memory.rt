@@ -261,21 +261,12 @@ enum Next<'a> {
     Reads,
 }
 
-/// Sends a batch to a new ledger, and what follows.
+/// Sends a batch to a new ledger, and the next one, or reads.
 fn sends_to_new<D: Faulty, R: Abort>(rt: &R, alloc: Global, first: Request<'_>, next: Next<'_>) {
-    if let Some(opened) = opens::<D, _>(rt, alloc) {
-        let sent = sends(rt, alloc, opened, first);
-        goes_on(rt, alloc, sent, next);
-    }
-}
-
-/// Sends the next batch to a store, or reads.
-fn goes_on<D: Crash + Drop>(
-    rt: &impl Abort,
-    alloc: Global,
-    sent: (Driven<D>, u64),
-    next: Next<'_>,
-) {
+    let Some(opened) = opens::<D, _>(rt, alloc) else {
+        return;
+    };
+    let sent = sends(rt, alloc, opened, first);
     match next {
         Next::Batch(request) => {
             let (store, _) = sends(rt, alloc, sent, request);
@@ -286,11 +277,6 @@ fn goes_on<D: Crash + Drop>(
             reads(rt, alloc, store);
         }
     }
-}
-
-/// The same, of a ledger on disks in memory.
-fn sends_in_memory(rt: &impl Abort, alloc: Global, first: Request<'_>, next: Next<'_>) {
-    sends_to_new::<InMemory, _>(rt, alloc, first, next);
 }
 
 /// A chain that falls, whose id that fails is told from then on, and not before.
@@ -309,7 +295,7 @@ fn want_of_memory_in_batches(rt: HostRuntime) {
         first: &[60],
         again: &[60],
     };
-    sends_in_memory(&rt, alloc, falling, Next::Batch(refused));
+    sends_to_new::<InMemory, _>(&rt, alloc, falling, Next::Batch(refused));
 }
 
 #[test]
@@ -323,5 +309,5 @@ fn want_of_memory_in_reads(rt: HostRuntime) {
         first: &[0; ENTRIES],
         again: &[18; ENTRIES],
     };
-    sends_in_memory(&rt, alloc, filling, Next::Reads);
+    sends_to_new::<InMemory, _>(&rt, alloc, filling, Next::Reads);
 }

@@ -28,8 +28,8 @@ pub fn changed<D: Disk + Drop>(
 ) -> (Files<D>, Result<(), Error>) {
     match opened(alloc, files) {
         Ok(mut database) => {
-            let told = executed(&mut database, sql);
-            (closed(database), told)
+            let told = database.execute_batch(sql);
+            (database.into_store().close(), told)
         }
         Err((error, files)) => (files, Err(error)),
     }
@@ -46,12 +46,4 @@ fn opened<D: Disk + Drop>(
         Ok(database) => Ok(database),
         Err((error, left)) => Err((error, left.into_files())),
     }
-}
-
-fn executed<D: Disk + Drop>(database: &mut Database<D>, sql: &str) -> Result<(), Error> {
-    database.execute_batch(sql)
-}
-
-fn closed<D: Disk + Drop>(database: Database<D>) -> Files<D> {
-    database.into_store().close()
 }

@@ -99,36 +99,45 @@ fn finds<D: Faulty>(rt: &impl Abort, alloc: Global) -> Result<(), Fail> {
     hold(alloc, &mut store, &NORTH, 450)?;
     hold(alloc, &mut store, &SOUTH, 1)?;
     let mut search = Search::new();
-    assert_eq!(rt; store.overdue(&mut search, SECOND + 2), Ok(None));
+    assert_eq!(rt;
+        store.ledgers.backend.overdue(&mut search, SECOND + 2),
+        Ok(None)
+    );
     assert!(rt; search.begins());
     // Of what is due for less than a second only a great many are told.
     for behind in [202, 402] {
         let moment = SECOND + 500;
         assert_eq!(rt;
-            store.overdue(&mut search, moment),
+            store.ledgers.backend.overdue(&mut search, moment),
             Ok(found(1, NORTH, behind, true))
         );
         settle(alloc, &mut store, &NORTH, &[], behind_first(behind))?;
-        assert_eq!(rt; store.overdue(&mut search, moment), Ok(None));
+        assert_eq!(rt;
+            store.ledgers.backend.overdue(&mut search, moment),
+            Ok(None)
+        );
         assert!(rt; search.begins());
     }
-    assert_eq!(rt; store.overdue(&mut search, SECOND + 500), Ok(None));
+    assert_eq!(rt;
+        store.ledgers.backend.overdue(&mut search, SECOND + 500),
+        Ok(None)
+    );
     let later = 2 * SECOND + 500;
     for _ in 0..2 {
         assert_eq!(rt;
-            store.overdue(&mut search, later),
+            store.ledgers.backend.overdue(&mut search, later),
             Ok(found(1, NORTH, 452, false))
         );
         assert_eq!(rt;
-            store.overdue(&mut search, later),
+            store.ledgers.backend.overdue(&mut search, later),
             Ok(found(2, SOUTH, 3, false))
         );
         settle(alloc, &mut store, &NORTH, &[], SECOND + 452)?;
         settle(alloc, &mut store, &SOUTH, &[], SECOND + 3)?;
-        assert_eq!(rt; store.overdue(&mut search, later), Ok(None));
+        assert_eq!(rt; store.ledgers.backend.overdue(&mut search, later), Ok(None));
         assert!(rt; search.begins());
     }
-    assert_eq!(rt; store.overdue(&mut search, later), Ok(None));
+    assert_eq!(rt; store.ledgers.backend.overdue(&mut search, later), Ok(None));
     Ok(())
 }
 

@@ -3,7 +3,7 @@
 use super::commands::{Command, Text, put_word, shown};
 use super::driven::Driven;
 use crate::tests::works::sums;
-use chain::{Listed, ReadFault};
+use chain::{Ledgers, Listed, ReadFault};
 use records::{AccountWithBalances, BalanceAt, Order, Side, StatementRow, Transfer};
 use sqlite_disk::Disk;
 use std::alloc::Global;
@@ -56,13 +56,10 @@ impl Entry for BalanceAt {
 
 /// What was listed, or the fault.
 fn listed<T: Entry + Drop>(alloc: Global, found: Result<Listed<T>, ReadFault>) -> Text {
-    match found {
-        Ok(found) => entries_told(alloc, &found),
-        Err(fault) => shown(alloc, &fault),
-    }
-}
-
-fn entries_told<T: Entry>(alloc: Global, found: &Listed<T>) -> Text {
+    let found = match found {
+        Ok(found) => found,
+        Err(fault) => return shown(alloc, &fault),
+    };
     let mut text = format!(in alloc; "clock {}:", found.clock)?;
     for entry in found.entries.iter() {
         put_word(&mut text, entry.entry(alloc)?)?;
@@ -72,13 +69,10 @@ fn entries_told<T: Entry>(alloc: Global, found: &Listed<T>) -> Text {
 
 /// The same, of each transfer its id alone.
 fn ids_listed(alloc: Global, found: Result<Listed<Transfer>, ReadFault>) -> Text {
-    match found {
-        Ok(found) => ids_told(alloc, &found),
-        Err(fault) => shown(alloc, &fault),
-    }
-}
-
-fn ids_told(alloc: Global, found: &Listed<Transfer>) -> Text {
+    let found = match found {
+        Ok(found) => found,
+        Err(fault) => return shown(alloc, &fault),
+    };
     let mut text = format!(in alloc; "clock {}:", found.clock)?;
     for entry in found.entries.iter() {
         put_word(&mut text, shown(alloc, &entry.id)?)?;
@@ -119,8 +113,14 @@ pub fn read<D: Disk + Drop>(store: &mut Driven<D>, command: &Command<'_>) -> Tex
     let asked = command.filter();
     match command.verb {
         "account" | "transfer" => look_up(store, command),
-        "history" => ids_listed(alloc, store.history_transfers(alloc, &digest, &asked)),
-        "balances" => listed(alloc, store.history_balances(alloc, &digest, &asked)),
+        "history" => ids_listed(
+            alloc,
+            store.ledgers.history_transfers(alloc, &digest, &asked),
+        ),
+        "balances" => listed(
+            alloc,
+            store.ledgers.history_balances(alloc, &digest, &asked),
+        ),
         _ => state(store, command),
     }
 }
@@ -131,9 +131,9 @@ fn look_up<D: Disk + Drop>(store: &mut Driven<D>, command: &Command<'_>) -> Text
     let digest = command.digest();
     let ids = command.ids()?;
     if command.verb == "account" {
-        listed(alloc, store.lookup_accounts(alloc, &digest, &ids))
+        listed(alloc, store.ledgers.lookup_accounts(alloc, &digest, &ids))
     } else {
-        listed(alloc, store.lookup_transfers(alloc, &digest, &ids))
+        listed(alloc, store.ledgers.lookup_transfers(alloc, &digest, &ids))
     }
 }
 

@@ -78,18 +78,14 @@ fn is_held<D: Disk + Drop>(store: &mut Driven<D>, is_released: bool) -> Result<b
     Ok(true)
 }
 
-/// What is held of an account by the one that ends nowhere.
-fn kept(account: u16) -> [u128; 2] {
-    match account {
+/// What is held of an account, before the others are released or behind that.
+fn held(account: u16, is_released: bool) -> [u128; 2] {
+    // By the hold that ends nowhere.
+    let [debits, credits] = match account {
         1 => [7, 0],
         2 => [0, 7],
         _ => [0, 0],
-    }
-}
-
-/// What is held of an account, before the others are released or behind that.
-fn held(account: u16, is_released: bool) -> [u128; 2] {
-    let [debits, credits] = kept(account);
+    };
     if is_released {
         [debits, credits]
     } else if account <= HOLDS {

@@ -5,7 +5,7 @@ use super::driven::Driven;
 use super::events::transfers;
 use super::playing::play_from_base;
 use crate::tests::works::Sending;
-use chain::{BatchFault, BatchReply, Ledgers, RoundWork};
+use chain::{BatchFault, BatchReply, Ledgers, RoundWork, Rounds};
 use records::{TransferResult, Unavailable};
 use sqlite_disk::Disk;
 
@@ -72,7 +72,7 @@ pub fn send_both<D: Disk + Drop>(store: &mut Driven<D>, command: &Command<'_>) -
         },
         wants_memory: other.verb == "fail",
     };
-    match store.run_round(both) {
+    match store.ledgers.in_round(both) {
         Ok((first, second)) => {
             let mut text = told(alloc, first)?;
             put_word(&mut text, said(alloc, "/")?)?;

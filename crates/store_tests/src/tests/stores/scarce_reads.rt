@@ -3,7 +3,7 @@
 use super::driven::Driven;
 use super::memory::{NORTH, mended};
 use amount::Amount;
-use chain::{Listed, ReadFault};
+use chain::{Ledgers, Listed, ReadFault};
 use records::{
     AccountFilter, Balances, FilterFlags, Kind, Order, Side, SinkFault, StatementRow, Sums,
     Unavailable,
@@ -82,10 +82,14 @@ fn listed<D: Disk + Drop>(
         flags: FilterFlags(3),
     };
     match kind {
-        0 => count(store.lookup_accounts(alloc, &NORTH, &[1, 9, 3])),
-        1 => count(store.lookup_transfers(alloc, &NORTH, &[1000, 9, 1001])),
-        2 => count(store.history_transfers(alloc, &NORTH, &asked)),
-        3 => count(store.history_balances(alloc, &NORTH, &asked)),
+        0 => count(store.ledgers.lookup_accounts(alloc, &NORTH, &[1, 9, 3])),
+        1 => count(
+            store
+                .ledgers
+                .lookup_transfers(alloc, &NORTH, &[1000, 9, 1001]),
+        ),
+        2 => count(store.ledgers.history_transfers(alloc, &NORTH, &asked)),
+        3 => count(store.ledgers.history_balances(alloc, &NORTH, &asked)),
         _ => stated(rt, alloc, store),
     }
 }

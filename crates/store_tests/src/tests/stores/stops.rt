@@ -276,27 +276,22 @@ fn stop_a_disk<D: Faulty, R: Abort>(rt: &R, alloc: Global, stopping: Stopping, r
     }
 }
 
-/// The same, of disks in memory.
-fn stop_in_memory(rt: &impl Abort, alloc: Global, stopping: Stopping, request: &Request) {
-    stop_a_disk::<InMemory, _>(rt, alloc, stopping, request);
-}
-
 #[test]
 fn a_log_that_stops_in_a_batch(rt: HostRuntime) {
-    stop_in_memory(&rt, rt.alloc(), Stopping::Log, &POSTS);
+    stop_a_disk::<InMemory, _>(&rt, rt.alloc(), Stopping::Log, &POSTS);
 }
 
 #[test]
 fn a_database_that_stops_in_a_batch(rt: HostRuntime) {
-    stop_in_memory(&rt, rt.alloc(), Stopping::Database, &POSTS);
+    stop_a_disk::<InMemory, _>(&rt, rt.alloc(), Stopping::Database, &POSTS);
 }
 
 #[test]
 fn a_log_that_stops_where_a_chain_falls(rt: HostRuntime) {
-    stop_in_memory(&rt, rt.alloc(), Stopping::Log, &FALLS);
+    stop_a_disk::<InMemory, _>(&rt, rt.alloc(), Stopping::Log, &FALLS);
 }
 
 #[test]
 fn a_database_that_stops_where_a_chain_falls(rt: HostRuntime) {
-    stop_in_memory(&rt, rt.alloc(), Stopping::Database, &FALLS);
+    stop_a_disk::<InMemory, _>(&rt, rt.alloc(), Stopping::Database, &FALLS);
 }

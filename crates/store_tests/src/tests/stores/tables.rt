@@ -113,13 +113,10 @@ fn named(alloc: Global, rows: &TenantRows, name: &str) -> Text {
 /// The version of the schema, each tenant's number, name and the first byte of its digest, and how
 /// many transfers it has.
 pub fn directory(alloc: Global, told: Result<AllRows, Unavailable>) -> Text {
-    match told {
-        Ok(all) => tenants_told(alloc, &all),
-        Err(fault) => shown(alloc, &fault),
-    }
-}
-
-fn tenants_told(alloc: Global, all: &AllRows) -> Text {
+    let all = match told {
+        Ok(all) => all,
+        Err(fault) => return shown(alloc, &fault),
+    };
     let mut text = format!(in alloc; "version {}:", all.version)?;
     for (row, tenant) in all.directory.iter().zip(all.tenants.iter()) {
         put_word(&mut text, tenant_told(alloc, row, tenant)?)?;

@@ -8,9 +8,8 @@ use Rattle.stored_ledgers.proofs.directory.digest_numbered.Goals as goal
 pub returns : goal.returns
 returns g c = record {
   value = λ clean.
-      let judged = c.in_ok-judged.ensures in
       let is = found_at_rest _ _ _ _ c.in_ok-judged.field-0 c.find_tenant_by_number-row.ensures
-      judged.ok.0 judged.follows c.requires clean in
+      c.in_ok-judged.ensures.ok.0 c.in_ok-judged.ensures.follows c.requires clean in
       number_found c.args.number (state g.S.Store c.args.conn.now).now.trees _ _
       (is.0.distinct.numbers c.args.number)
       (rw (to_z-of_z w64 c.args.number (search rules)) at is.1) c.digest_in.ensures;

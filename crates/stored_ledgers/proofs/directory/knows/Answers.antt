@@ -7,9 +7,8 @@ use Rattle.stored_ledgers.proofs.directory.knows.Goals as goal
 pub returns : goal.returns
 returns g c = record {
   value = λ clean.
-      let judged = c.in_ok-judged.ensures in
       let is = found_at_rest _ _ _ _ c.in_ok-judged.field-0 c.find_tenant-number.ensures
-      judged.ok.0 judged.follows c.requires clean in
+      c.in_ok-judged.ensures.ok.0 c.in_ok-judged.ensures.follows c.requires clean in
       let one = is.0.distinct.digests c.args.digest.now in
       c.is_some.ensures
       ∙ found_tenant c.args.digest.now _ _ (found_number c.args.digest.now _ _ one is.1);

@@ -1,20 +1,9 @@
-use Rattle.sqlite.proofs.StateLemmas.{survives_weaker}
-use Rattle.stored_ledgers.proofs.KeyLemmas.{has_keyed, left_keyed}
-use Rattle.stored_ledgers.proofs.ServingLemmas.{serves_after}
+use Rattle.stored_ledgers.proofs.KeyLemmas.{keying_change}
+use Rattle.stored_ledgers.proofs.ServingLemmas.{changes_tenants}
 use Rattle.stored_ledgers.proofs.keying.change_key.Goals as goal
 
-pub returns-clause-told : goal.returns-clause-told
-returns-clause-told g c live =
-    has_keyed c.args.name.now c.args.digest.now c.in_transaction.new.memory _ _
-    c.in_transaction.result (c.in_transaction.ensures.told live) (c.in_transaction.ensures.same live)
-
-pub returns-clause-serves : goal.returns-clause-serves
-returns-clause-serves g c =
+pub returns : goal.returns
+returns g c =
     let did = c.in_transaction.ensures in
-    serves_after _ _ _ _ _ _ did.told did.again did.same did.quiet did.open
-
-pub returns-clause-survives : goal.returns-clause-survives
-returns-clause-survives g c =
-    survives_weaker _ _ _ _
-    (λ clean trees left. left_keyed c.args.name.now c.args.digest.now _ trees left)
-    c.in_transaction.ensures.survives
+    changes_tenants (keying_change c.args.name.now c.args.digest.now) _ _ _ c.in_transaction.result
+    did.told did.again did.quiet did.same did.open did.survives

@@ -1,10 +1,9 @@
 use Rattle.std.proofs.Common.{◌≡◌, Ok, ap, sym, subst, ◌∙◌}
 use Rattle.sqlite.specs.Held.{state}
-use Rattle.sqlite.proofs.StateLemmas.{survives_weaker}
 use Rattle.stored_ledgers.specs.Outcomes.{ArePast}
 use Rattle.stored_ledgers.proofs.OutcomeLemmas.{keeps_tables}
-use Rattle.stored_ledgers.proofs.RoundLemmas.{left_round}
-use Rattle.stored_ledgers.proofs.ServingLemmas.{told_made, no_fault, serves_failed}
+use Rattle.stored_ledgers.proofs.RoundLemmas.{after_round}
+use Rattle.stored_ledgers.proofs.ServingLemmas.{serves_after, told_made, no_fault}
 use Rattle.stored_ledgers.proofs.rounds.in_round.Goals as goal
 
 pub returns-in-Ok-Ok-clause-run : goal.returns-in-Ok-Ok-clause-run
@@ -37,23 +36,15 @@ returns-in-Ok-Ok-clause-serves g c = record {
 
 pub returns-in-Ok-Ok-clause-survives : goal.returns-in-Ok-Ok-clause-survives
 returns-in-Ok-Ok-clause-survives g c =
-    survives_weaker _ _ _ _
-    (λ clean trees left. left_round (g.W.RoundWork.gives c.args.work) _ trees left)
-    c.in_transaction.ensures.survives
+    after_round (g.W.RoundWork.gives c.args.work) _ _ c.in_transaction.ensures.survives
 
-pub returns-in-Err-clause-tables : goal.returns-in-Err-clause-tables
-returns-in-Err-clause-tables g c live = keeps_tables _ _ (c.in-Err.ensures.same live)
-
-pub returns-in-Err-clause-serves : goal.returns-in-Err-clause-serves
-returns-in-Err-clause-serves g c =
-    let failed = c.in-Err.ensures in
-    serves_failed c.in-Err.why _ _ _ failed.again failed.same failed.quiet failed.open
-
-pub returns-in-Err-clause-same : goal.returns-in-Err-clause-same
-returns-in-Err-clause-same g c live = c.in-Err.ensures.same live
-
-pub returns-in-Err-clause-survives : goal.returns-in-Err-clause-survives
-returns-in-Err-clause-survives g c =
-    survives_weaker _ _ _ _
-    (λ clean trees left. left_round (g.W.RoundWork.gives c.args.work) _ trees left)
-    c.in_transaction.ensures.survives
+pub returns-in-Err : goal.returns-in-Err
+returns-in-Err g c =
+    let did = c.in_transaction.ensures in record {
+      run = λ live. tt;
+      tables = λ live. keeps_tables _ _ (c.in-Err.ensures.same live);
+      serves = serves_after c.in_transaction.result _ _ _ _ _ _ (λ failed. let both = sym c.in-Err.is ∙ failed in cc)
+          did.told did.again did.same did.quiet did.open;
+      same = λ live. c.in-Err.ensures.same live;
+      survives = after_round (g.W.RoundWork.gives c.args.work) _ _ did.survives;
+    }

@@ -26,15 +26,15 @@ changes g c m valid next =
       valid = next_transfer m c.args.accepted.now.stored valid next.next;
     }
 
-pub keep_transfer-done-requires : goal.keep_transfer-done-requires
-keep_transfer-done-requires g c = record { inside = λ clean. is_inside _ _ (c.requires.may.usable clean); times = c.requires.times }
+pub write_transfer-done-requires : goal.write_transfer-done-requires
+write_transfer-done-requires g c = record { inside = λ clean. is_inside _ _ (c.requires.may.usable clean); times = c.requires.times }
 
 pub returns-clause-leaves : goal.returns-clause-leaves
 returns-clause-leaves g c =
     let a = c.args.accepted.now in
-    leaves_or_over g.S.Store _ c.args.conn.now c.keep_transfer-done.new.conn _ _ _ _ _ c.keep_transfer-done.ensures.changes.follows c.keep_transfer-done.ensures.changes.ok c.or_give_up.ensures
+    leaves_or_over g.S.Store _ c.args.conn.now c.write_transfer-done.new.conn _ _ _ _ _ c.write_transfer-done.ensures.changes.follows c.write_transfer-done.ensures.changes.ok c.or_give_up.ensures
     (λ x written.
-    writes_leave g.S.Store c.args.tenant.0 c.args.conn.now c.keep_transfer-done.new.conn x (CanAccept a) (with_accepted a) (λ m. with_transfer m a.stored) c.held_machines.ensures c.requires.may.usable c.keep_transfer-done.ensures.changes.follows written
+    writes_leave g.S.Store c.args.tenant.0 c.args.conn.now c.write_transfer-done.new.conn x (CanAccept a) (with_accepted a) (λ m. with_transfer m a.stored) c.held_machines.ensures c.requires.may.usable c.write_transfer-done.ensures.changes.follows written
     (λ live valid. changes g c _ valid (c.requires.may.so live)))
 
 -- what is so where neither of the same results failed
@@ -52,5 +52,5 @@ returns-clause-covers g c live =
     let leaves = returns-clause-leaves g c in
     let live0 = live_before s0 s2 leaves.follows.calls live in
     let held = held_before g.S.Store t c.args.conn.now c.or_give_up.new.conn c.requires.may.usable leaves.follows.calls live in
-    both c.or_give_up.result c.keep_transfer-done.result c.or_give_up.ensures.same (leaves.state live) c.keep_transfer-done.ensures.kept
-    (λ moved due. state_covered _ _ c.keep_transfer-done.ensures.grows (shown t s0) (shown t s2) a moved (changes g c (shown t s0).now held.valid (c.requires.may.so live0)).rows due)
+    both c.or_give_up.result c.write_transfer-done.result c.or_give_up.ensures.same (leaves.state live) c.write_transfer-done.ensures.kept
+    (λ moved due. state_covered _ _ c.write_transfer-done.ensures.grows (shown t s0) (shown t s2) a moved (changes g c (shown t s0).now held.valid (c.requires.may.so live0)).rows due)

@@ -1,23 +1,20 @@
-use Rattle.std.proofs.Common.{rules}
+use Rattle.std.proofs.Common.{rules, refl, Some}
+use Rattle.std.proofs.lemmas.Result.{on_ok_weaker}
 use Rattle.sqlite.specs.Held.{state}
-use Rattle.stored_tables.specs.BatchLaws.{clean_before}
-use Rattle.stored_tables.proofs.ChangedRows.{row_due_fits, state_written}
+use Rattle.ledger_sql.specs.Effects.{IsInside}
+use Rattle.stored_tables.specs.Releasing.{HasStatusRow}
+use Rattle.stored_tables.proofs.ChangedRows.{row_due_fits}
+use Rattle.stored_tables.proofs.Keeping.{changes}
 use Rattle.stored_tables.proofs.Numbers.{passed}
+use Rattle.stored_tables.proofs.Statements.{state_set}
 use Rattle.stored_tables.proofs.changing.set_state.Goals as goal
 
 pub set_status-requires-clause-due : goal.set_status-requires-clause-due
-set_status-requires-clause-due g c = row_due_fits c.in_ok-row.field-0 c.in-Some.row c.in-Some.is c.in_ok-row.ensures.fits
+set_status-requires-clause-due g c = row_due_fits (Some c.args.row.now) c.args.row.now refl c.requires.fits
 
-pub returns-in-Some : goal.returns-in-Some
-returns-in-Some g c = record {
-  ok = λ clean.
-      let t = c.args.tenant.0 in
-      let s0 = state g.S.Store c.args.conn.now in
-      let s1 = state g.S.Store c.status.new.conn in
-      let s2 = state g.S.Store c.set_status.new.conn in
-      let clean1 = clean_before _ _ c.set_status.ensures.follows clean in
-      let clean0 = clean_before _ _ c.status.ensures.reads.follows clean1 in
-      state_written t c.args.id c.args.to s0 s1 s2 (c.requires clean0) c.columns_keep_order.ensures.one_to_one c.found_by_key.ensures.alone c.found_by_key.ensures.replaced c.in-Some.row c.in_ok-row.field-0 c.in-Some.is
-      (c.in_ok-row.ensures.ok clean1 (c.requires clean0).schema) (c.in_ok-row.ensures.reads.same clean1) c.set_status.result (rw (passed t (search rules)) at (c.set_status.ensures.ok clean));
-  follows = search rules;
-}
+pub returns : goal.returns
+returns g c =
+    changes g.S.Store c.args.conn.now c.set_status.new.conn c.set_status.result (IsInside (state g.S.Store c.args.conn.now) × HasStatusRow c.args.tenant.0 c.args.row.now (state g.S.Store c.args.conn.now)) _ (λ clean. (c.requires.inside clean, c.requires.told clean)) c.set_status.ensures.follows
+    (λ can clean.
+    on_ok_weaker c.set_status.result (state_set c.args.tenant.0 _ _ can.0.schema c.columns_keep_order.ensures.one_to_one c.found_by_key.ensures.alone c.found_by_key.ensures.replaced c.args.row.now.transfer c.args.to c.args.row.now can.1)
+    (rw (passed c.args.tenant.0 (search rules)) at (c.set_status.ensures.ok clean)))

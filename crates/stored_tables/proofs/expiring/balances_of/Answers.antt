@@ -12,6 +12,6 @@ returns-in-Some g c = record {
 
 pub returns-in-None : goal.returns-in-None
 returns-in-None g c = record {
-  ok = λ clean ledger. told_stored c.args.tenant.0 (kept_in c.args.kept.now.items) c.args.account (state g.S.Store c.args.conn.now).now.trees (sym c.kept_balances.ensures ∙ c.in-None.is) c.stored_balances.result (c.stored_balances.ensures.ok clean ledger);
-  reads = c.stored_balances.ensures.reads;
+  ok = λ clean ledger. told_stored c.args.tenant.0 (kept_in c.args.kept.now.items) c.args.account (state g.S.Store c.args.conn.now).now.trees (sym c.kept_balances.ensures ∙ c.in-None.is) c.balances.result (c.balances.ensures.ok clean ledger);
+  reads = c.balances.ensures.reads;
 }

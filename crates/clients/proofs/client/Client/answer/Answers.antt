@@ -41,17 +41,11 @@ returns-in-Refused g c = record {
 }
 
 pub returns-in-Wanting : goal.returns-in-Wanting
-returns-in-Wanting g c = record {
-  answers =
-      is_unmoved IsWanting _ _ _ _ c.args.self.now _ _ c.self.inside.outbox c.self.inside.rest c.self.inside.goes_on
-      c.self.view_is (rw c.in-Wanting.is at c.exchange.ensures.answers);
-  follows = c.exchange.ensures.follows;
-}
+returns-in-Wanting g c =
+    is_unmoved g.L.Ledgers.means IsWanting _ _ _ _ c.args.self.now _ _ c.self.inside.outbox c.self.inside.rest
+    c.self.inside.goes_on c.self.view_is (rw c.in-Wanting.is at c.exchange.ensures)
 
 pub returns-in-Over : goal.returns-in-Over
-returns-in-Over g c = record {
-  answers =
-      is_unmoved IsAllAnswered _ _ _ _ c.args.self.now _ _ c.self.inside.outbox c.self.inside.rest c.self.inside.goes_on
-      c.self.view_is (rw c.in-Over.is at c.exchange.ensures.answers);
-  follows = c.exchange.ensures.follows;
-}
+returns-in-Over g c =
+    is_unmoved g.L.Ledgers.means IsAllAnswered _ _ _ _ c.args.self.now _ _ c.self.inside.outbox c.self.inside.rest
+    c.self.inside.goes_on c.self.view_is (rw c.in-Over.is at c.exchange.ensures)

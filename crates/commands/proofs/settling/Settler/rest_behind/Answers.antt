@@ -9,16 +9,8 @@ returns-then-not-begins-clause-behind c = record {
   goes_on = λ goes. refl;
 }
 
-pub returns-then-self-clause-behind : goal.returns-then-self-clause-behind
-returns-then-self-clause-behind c = record {
-  noted = c.note-rest.new.self.behind;
-  notes = c.note-rest.ensures.behind;
-  ends = λ begins. c.end_search.ensures;
-  goes_on = λ goes. absurd (goes (c.begins.ensures.0 (search rules)));
-}
-
-pub returns-else-self-clause-behind : goal.returns-else-self-clause-behind
-returns-else-self-clause-behind c = record {
+pub returns-clause-behind : goal.returns-clause-behind
+returns-clause-behind c = record {
   noted = c.note-rest.new.self.behind;
   notes = c.note-rest.ensures.behind;
   ends = λ begins. c.end_search.ensures;

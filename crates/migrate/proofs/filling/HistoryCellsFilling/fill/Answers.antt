@@ -1,6 +1,6 @@
-use Rattle.migrate.proofs.FillLemmas.{filled, fills_histories}
+use Rattle.std.proofs.Common.{arith}
+use Rattle.migrate.proofs.FillLemmas.{filled}
 use Rattle.migrate.proofs.filling.HistoryCellsFilling.fill.Goals as goal
 
 pub returns : goal.returns
-returns g c =
-    filled _ _ _ _ (λ altering. fills_histories _ _ _ _ altering _) c.requires c.fill_history.ensures
+returns g c = filled c.fill_history.ensures c.requires (omega arith)

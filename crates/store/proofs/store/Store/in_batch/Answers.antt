@@ -1,18 +1,17 @@
-use Rattle.std.proofs.Common.{◌≡◌, ◌⊎◌, true, Ok, Err, refl, sym, subst, ap, ◌∙◌, arith, rules}
+use Rattle.std.proofs.Common.{◌≡◌, true, Ok, Err, refl, sym, ap, ◌∙◌, rules}
 use Rattle.records.specs.declared.unavailable.Unavailable.TheVariants.{Disk as DiskFailed}
 use Rattle.stored_ledgers.specs.Outcomes.{IsAfterBatch, batch_answer}
 use Rattle.stored_ledgers.specs.Transactions.{Answer}
 use Rattle.stored_ledgers.specs.declared.batches.UnknownKey.{UnknownKey}
 use Rattle.chain.specs.declared.ledgers.BatchFault.TheVariants.{Unavailable as AreUnavailable}
-use Rattle.store.specs.Stores.{may_find_at, OfDatabaseAt}
-use Rattle.store.proofs.ReadLemmas.{answers_as, answers_open}
+use Rattle.store.proofs.ReadLemmas.{answers_as, finds_open, serves_open}
 use Rattle.store.proofs.store.Store.in_batch.Goals as goal
 
 pub returns-clause-finds : goal.returns-clause-finds
-returns-clause-finds g c honest db may =
-    subst (λ place. may_find_at place db
-    ⊎ OfDatabaseAt (λ old. IsAfterBatch (g.W.Work.gives c.args.work) c.args.digest.now old db) place)
-    (sym c.in-Open.is) (c.in_batch-done.ensures.survives.crash honest db may)
+returns-clause-finds g c =
+    finds_open g.D.Disk (IsAfterBatch (g.W.Work.gives c.args.work) c.args.digest.now) c.args.self.now.place c.in-Open.conn
+    c.in_batch-done.new.conn c.in-Open.is
+    c.in_batch-done.ensures.survives
 
 told_disk : {O : Type 0} (done : Answer O UnknownKey)
     → batch_answer done ≡ Err (AreUnavailable DiskFailed) → done ≡ Err DiskFailed
@@ -27,7 +26,6 @@ returns-clause-answers g c =
       λ failed. told_disk _ (sym c.batch_answer.ensures ∙ failed),
       λ failed. c.batch_answer.ensures ∙ ap batch_answer failed,
     ) ready
-    (answers_open g.D.Disk c.in_batch-done.result c.is_disk_fault.result c.args.self.now _ c.in-Open.conn
+    (serves_open g.D.Disk c.in_batch-done.result c.is_disk_fault.result c.args.self.now _ c.in-Open.conn
     c.in_batch-done.new.conn c.in-Open.is refl ready refl c.is_disk_fault.ensures c.requires
-    c.in_batch-done.ensures.serves.is_open (λ clean. omega (arith, c.in_batch-done.ensures.survives.clean, clean))
-    c.in_batch-done.ensures.serves.resting)
+    c.in_batch-done.ensures.serves c.in_batch-done.ensures.survives)

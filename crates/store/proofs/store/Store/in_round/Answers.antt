@@ -1,11 +1,11 @@
-use Rattle.std.proofs.Common.{◌≡◌, ◌⊎◌, true, Result, Ok, Err, OnErr, refl, sym, ap, subst, ◌∙◌, rules, arith}
+use Rattle.std.proofs.Common.{◌≡◌, true, Result, Ok, Err, OnErr, refl, sym, ap, ◌∙◌, rules}
 use Rattle.sqlite.specs.Effect.{Database}
 use Rattle.sqlite.specs.Files.{file_state}
 use Rattle.stored_ledgers.specs.Directory.{tenants_in}
 use Rattle.stored_ledgers.specs.Resting.{IsSame}
 use Rattle.stored_ledgers.specs.Rounds.{IsAfterRound}
-use Rattle.store.specs.Stores.{may_find_at, tenants_at, OfDatabaseAt}
-use Rattle.store.proofs.ReadLemmas.{answers_open}
+use Rattle.store.specs.Stores.{tenants_at}
+use Rattle.store.proofs.ReadLemmas.{finds_open, serves_open}
 use Rattle.store.proofs.store.Store.in_round.Goals as goal
 
 on_err : {T E P Q : Type 0} (result : Result T E) → (P → Q) → OnErr result P → OnErr result Q
@@ -21,15 +21,14 @@ returns-clause-same g c live =
     (c.in_round-ran.ensures.same live)
 
 pub returns-clause-finds : goal.returns-clause-finds
-returns-clause-finds g c honest db may =
-    subst (λ place. may_find_at place db
-    ⊎ OfDatabaseAt (λ old. IsAfterRound (g.W.RoundWork.gives c.args.work) old db) place)
-    (sym c.in-Open.is) (c.in_round-ran.ensures.survives.crash honest db may)
+returns-clause-finds g c =
+    finds_open g.D.Disk (IsAfterRound (g.W.RoundWork.gives c.args.work)) c.args.self.now.place c.in-Open.conn
+    c.in_round-ran.new.conn c.in-Open.is
+    c.in_round-ran.ensures.survives
 
 pub returns-clause-answers : goal.returns-clause-answers
 returns-clause-answers g c =
     let answers : c.args.self.now.ready ≡ true = search rules in
-    answers_open g.D.Disk c.in_round-ran.result c.is_disk_fault.result c.args.self.now _ c.in-Open.conn
+    serves_open g.D.Disk c.in_round-ran.result c.is_disk_fault.result c.args.self.now _ c.in-Open.conn
     c.in_round-ran.new.conn c.in-Open.is refl answers refl c.is_disk_fault.ensures c.requires
-    c.in_round-ran.ensures.serves.is_open (λ clean. omega (arith, c.in_round-ran.ensures.survives.clean, clean))
-    c.in_round-ran.ensures.serves.resting
+    c.in_round-ran.ensures.serves c.in_round-ran.ensures.survives

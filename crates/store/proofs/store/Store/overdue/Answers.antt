@@ -13,7 +13,7 @@ pub find_overdue-found-requires : goal.find_overdue-found-requires
 find_overdue-found-requires g c = reads_here g.D.Disk c.args.self.now _ c.in-Open.is (search rules) c.requires
 
 pub returns-clause-reads : goal.returns-clause-reads
-returns-clause-reads g c = reads_open g.D.Disk c.find_overdue-found.result c.is_disk_fault.result c.args.self.now _ c.in-Open.conn c.find_overdue-found.new.conn c.in-Open.is refl refl (search rules) refl c.is_disk_fault.ensures c.requires c.find_overdue-found.ensures.reads
+returns-clause-reads g c = reads_open g.D.Disk c.find_overdue-found.result c.is_disk_fault.result c.args.self.now _ c.in-Open.conn c.find_overdue-found.new.conn c.in-Open.is refl (search rules) refl c.is_disk_fault.ensures c.requires refl c.find_overdue-found.ensures.reads
 
 pub returns-clause-none : goal.returns-clause-none
 returns-clause-none g c =

@@ -1,4 +1,4 @@
-use Rattle.std.proofs.Common.{ℤ, ◌<◌, [], ◌∷◌, map, length, MatchOption, w64, refl, sym, ap, subst, ◌∙◌, arith, rules}
+use Rattle.std.proofs.Common.{ℤ, ◌<◌, [], ◌∷◌, map, length, MatchOption, w64, refl, sym, ap, subst, arith, rules}
 use Rattle.std.specs.Map.Iter.{deref_pair}
 use Rattle.std.proofs.lemmas.Int.{to_z-of_z}
 use Rattle.std.proofs.lemmas.List.{map-append, length-map, length-append}
@@ -6,8 +6,8 @@ use Rattle.std.proofs.lemmas.List.Elements.{All-push}
 use Rattle.stored_ledgers.specs.DueSets.{DueSet}
 use Rattle.stored_ledgers.specs.Overdue.{IsOverdue, IsNotOverdue, IsDuePiece, settled_to, number_behind}
 use Rattle.stored_ledgers.specs.declared.due_search.Search.{Search}
-use Rattle.stored_ledgers.proofs.SeenLemmas.{seen_more, seen_all}
-use Rattle.stored_ledgers.proofs.SearchLemmas.{entries_on, stops, begins_anew, finds, still_settled, in_range}
+use Rattle.stored_ledgers.proofs.SeenLemmas.{seen_all}
+use Rattle.stored_ledgers.proofs.SearchLemmas.{entries_on, walks_all, comes_to, stops, begins_anew, finds, still_settled}
 use Rattle.stored_ledgers.proofs.due_search.Search.next.Goals as goal
 
 pub loop-number-preserved : goal.loop-number-preserved
@@ -37,12 +37,10 @@ loop-number-preserved c =
 
 pub returns-then-looks-eq-LOOKS : goal.returns-then-looks-eq-LOOKS
 returns-then-looks-eq-LOOKS c =
-    let start = to_z-of_z w64 c.args.self.now.from (search rules) in
-    let is = seen_more deref_pair (entries_on c.args.self.now.from c.args.due.now) c.into_iter-number-iterator.result c.loop-number.number-iterator
-    c.next.new.self c.loop-number.yielded (c.in-Some.number, c.in-Some.set) c.next.result
-    (c.into_iter-number-iterator.ensures.into_iter_gives ∙ c.range-number-items.ensures.between tt
-    ∙ ap (λ (n : ℤ). entries_on n c.args.due.now) start)
-    c.loop-number.yielded_by c.in-Some.is c.next.ensures.steps in
+    let range = c.range-number-items.ensures in
+    let here = comes_to deref_pair _ c.args.self.now.from c.args.due.now _ _ _ _ c.loop-number.yielded _ _
+    (to_z-of_z w64 c.args.self.now.from (search rules)) c.into_iter-number-iterator.ensures.into_iter_gives
+    (range.between tt) (range.in_range tt).0 c.loop-number.yielded_by c.in-Some.is c.next.ensures.steps in
     let same = to_z-of_z w64 c.in-Some.number.now (search rules) in
     let some : 0 < length (map deref_pair c.loop-number.yielded)
     = omega (
@@ -51,35 +49,30 @@ returns-then-looks-eq-LOOKS c =
       c.loop-number.invariant.2.looked,
       c.if-looks-eq-LOOKS.true,
     ) in
-    stops c.args.due.now c.args.moment c.args.self.now _ (map deref_pair c.loop-number.yielded) (c.in-Some.number.now, c.in-Some.set.now) c.next.new.self is
-    c.range-number-items.ensures.ordered (in_range _ c.args.self.now.from c.args.due.now c.range-number-items.result start
-    (c.range-number-items.ensures.between tt) (c.range-number-items.ensures.in_range tt).0)
+    stops c.args.due.now c.args.moment c.args.self.now _ (map deref_pair c.loop-number.yielded)
+    (c.in-Some.number.now, c.in-Some.set.now) c.next.new.self here.0 range.ordered here.1
     c.loop-number.invariant.2.passed some same (ap (λ (s : Search). s.last) c.loop-number.invariant.2.unchanged)
 
 pub returns-in-Some-due_in : goal.returns-in-Some-due_in
 returns-in-Some-due_in c =
-    let start = to_z-of_z w64 c.args.self.now.from (search rules) in
-    let is = seen_more deref_pair (entries_on c.args.self.now.from c.args.due.now) c.into_iter-number-iterator.result c.loop-number.number-iterator
-    c.next.new.self c.loop-number.yielded (c.in-Some.number, c.in-Some.set) c.next.result
-    (c.into_iter-number-iterator.ensures.into_iter_gives ∙ c.range-number-items.ensures.between tt
-    ∙ ap (λ (n : ℤ). entries_on n c.args.due.now) start)
-    c.loop-number.yielded_by c.in-Some.is c.next.ensures.steps in
+    let range = c.range-number-items.ensures in
+    let here = comes_to deref_pair _ c.args.self.now.from c.args.due.now _ _ _ _ c.loop-number.yielded _ _
+    (to_z-of_z w64 c.args.self.now.from (search rules)) c.into_iter-number-iterator.ensures.into_iter_gives
+    (range.between tt) (range.in_range tt).0 c.loop-number.yielded_by c.in-Some.is c.next.ensures.steps in
     let same = to_z-of_z w64 c.in-Some.number.now (search rules) in
     let to = still_settled c.args.self.now c.loop-number.self c.in-Some.number.now _ c.released.result
     c.loop-number.invariant.2.unchanged same c.released.ensures in
-    finds c.args.due.now c.args.moment c.args.self.now _ (map deref_pair c.loop-number.yielded) (c.in-Some.number.now, c.in-Some.set.now) c.next.new.self _
-    c.in-Some-due_in.piece c.released.result is c.range-number-items.ensures.ordered
-    (in_range _ c.args.self.now.from c.args.due.now c.range-number-items.result start
-    (c.range-number-items.ensures.between tt) (c.range-number-items.ensures.in_range tt).0)
-    c.loop-number.invariant.2.passed same to c.in-Some-due_in.ensures (ap number_behind (sym same)) refl
+    finds c.args.due.now c.args.moment c.args.self.now _ (map deref_pair c.loop-number.yielded)
+    (c.in-Some.number.now, c.in-Some.set.now) c.next.new.self _ c.in-Some-due_in.piece c.released.result
+    here.0 range.ordered here.1 c.loop-number.invariant.2.passed same to c.in-Some-due_in.ensures
+    (ap number_behind (sym same)) refl
 
 pub returns : goal.returns
 returns c =
-    let start = to_z-of_z w64 c.args.self.now.from (search rules) in
-    let is = seen_all deref_pair (entries_on c.args.self.now.from c.args.due.now) c.into_iter-number-iterator.result c.loop-number.number-iterator
-    c.next.new.self c.loop-number.yielded c.next.result
-    (c.into_iter-number-iterator.ensures.into_iter_gives ∙ c.range-number-items.ensures.between tt
-    ∙ ap (λ (n : ℤ). entries_on n c.args.due.now) start)
+    let range = c.range-number-items.ensures in
+    let is = seen_all deref_pair (entries_on c.args.self.now.from c.args.due.now) _ _ _ c.loop-number.yielded _
+    (walks_all _ c.args.self.now.from c.args.due.now _ _ (to_z-of_z w64 c.args.self.now.from (search rules))
+    c.into_iter-number-iterator.ensures.into_iter_gives (range.between tt))
     c.loop-number.yielded_by c.in-None.is c.next.ensures.steps in
-    begins_anew c.args.due.now c.args.moment c.args.self.now _ (map deref_pair c.loop-number.yielded) is c.range-number-items.ensures.ordered
+    begins_anew c.args.due.now c.args.moment c.args.self.now _ (map deref_pair c.loop-number.yielded) is range.ordered
     c.loop-number.invariant.2.passed refl (ap (λ (s : Search). s.last) c.loop-number.invariant.2.unchanged)

@@ -1,48 +1,36 @@
 use Rattle.std.proofs.Common.{◌≡◌, false, List, Some, None, option_map, is_some, refl, sym, ap, subst, ◌∙◌}
-use Rattle.std.specs.List.{position}
 use Rattle.chain.specs.Tables.{State}
 use Rattle.plain.specs.declared.book.Tenant.{Tenant}
 use Rattle.plain.specs.Book.{machine_with, ChangesOne}
 use Rattle.plain.specs.BookLedgers.{machines_in}
 use Rattle.service.specs.Deeds.{joined as after_joining}
 use Rattle.service.specs.Openings.{As_now}
-use Rattle.whole_runs.specs.BookNames.{has_name, names_among}
+use Rattle.whole_runs.specs.BookNames.{names_among}
 use Rattle.whole_runs.specs.Names.{AddsName}
 use Rattle.whole_runs.proofs.BookLemmas.{added_others, added_own, none_of}
 use Rattle.whole_runs.proofs.NameLemmas.{gives_on}
-use Rattle.whole_runs.proofs.NamedLemmas.{is_named, joined_named, joins_name, unnamed}
+use Rattle.whole_runs.proofs.NamedLemmas.{is_named, joined_named, joins_name, name_looked_up, unnamed}
 use Rattle.whole_runs.proofs.named_book.NamedBookReopening.join.Goals as goal
 
 pub returns-then-is_some-clause-named : goal.returns-then-is_some-clause-named
-returns-then-is_some-clause-named c = rw (← c.self.view_is) (record {
-  told = λ live. (
-    is_named c.args.name.now c.self.inside.names.items
-        (sym (c.is_some.ensures ∙ ap is_some (c.place_of.ensures
-        ∙ ap (position (has_name c.args.name.now)) c.deref.ensures.value)) ∙ c.if-is_some.true),
-    λ name. refl,
-  );
-  found = λ found keeps. ∣ keeps ∣₁;
-})
+returns-then-is_some-clause-named c =
+    let known = is_named c.args.name.now c.self.inside.names.items (name_looked_up _ _ _ _ _ _ c.is_some.ensures
+    c.place_of.ensures c.deref.ensures.value c.if-is_some.true) in
+    rw (← c.self.view_is) (record { told = λ live. (known, λ name. refl); found = λ found keeps. ∣ keeps ∣₁ })
 
 pub returns-then-holds-clause-named : goal.returns-then-holds-clause-named
-returns-then-holds-clause-named c = rw (← c.self.view_is) (record {
-  told = λ live. (
-    unnamed c.args.name.now c.self.inside.names.items
-        (sym (c.is_some.ensures ∙ ap is_some (c.place_of.ensures
-        ∙ ap (position (has_name c.args.name.now)) c.deref.ensures.value)) ∙ c.if-is_some.false),
-    λ name. refl,
-  );
-  found = λ found keeps. ∣ keeps ∣₁;
-})
+returns-then-holds-clause-named c =
+    let known = unnamed c.args.name.now c.self.inside.names.items (name_looked_up _ _ _ _ _ _ c.is_some.ensures
+    c.place_of.ensures c.deref.ensures.value c.if-is_some.false) in
+    rw (← c.self.view_is) (record { told = λ live. (known, λ name. refl); found = λ found keeps. ∣ keeps ∣₁ })
 
 module _ (c : goal.After-push_reserved) where
   joined : AddsName c.args.name.now c.args.digest.now (names_among c.self.inside.names.items)
       (names_among c.push_reserved.new.self.items)
   joined =
       let none =
-      unnamed c.args.name.now c.self.inside.names.items
-      (sym (c.is_some.ensures ∙ ap is_some (c.place_of.ensures
-      ∙ ap (position (has_name c.args.name.now)) c.deref.ensures.value)) ∙ c.if-is_some.false) in (
+      unnamed c.args.name.now c.self.inside.names.items (name_looked_up _ _ _ _ _ _ c.is_some.ensures
+      c.place_of.ensures c.deref.ensures.value c.if-is_some.false) in (
         none,
         rw (c.push_reserved.ensures.items, c.reserve.ensures.items)
             (joins_name c.args.name.now c.args.digest.now c.self.inside.names.items none),

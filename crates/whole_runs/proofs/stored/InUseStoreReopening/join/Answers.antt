@@ -1,5 +1,6 @@
-use Rattle.std.proofs.Common.{ap}
-use Rattle.stored_ledgers.specs.Joining.{Joined}
+use Rattle.std.proofs.Common.{Err, refl}
+use Rattle.stored_ledgers.specs.Joining.{HasJoined, Joined}
+use Rattle.stored_ledgers.specs.declared.joining.AddTenant.TheVariants.{DigestTaken}
 use Rattle.store.specs.Deeds.{ending_of}
 use Rattle.store.specs.InUseLaws.{moves_in_use}
 use Rattle.store.specs.Names.{names_of}
@@ -9,7 +10,7 @@ use Rattle.whole_runs.specs.Names.{AddsName, JoinsNames}
 use Rattle.whole_runs.proofs.FoundNames.{found_tried}
 use Rattle.whole_runs.proofs.NameLemmas.{joins_go}
 use Rattle.whole_runs.proofs.StoreNames.{joins_names}
-use Rattle.whole_runs.proofs.TakenLemmas.{taken_at_joining}
+use Rattle.whole_runs.proofs.TakenLemmas.{told_taken}
 use Rattle.whole_runs.proofs.stored.InUseStoreReopening.join.Goals as goal
 
 pub returns-clause-moves : goal.returns-clause-moves
@@ -21,9 +22,8 @@ returns-clause-moves g c =
 pub returns-clause-taken : goal.returns-clause-taken
 returns-clause-taken g c =
     rw (← c.self.view_is)
-    (λ live told. taken_at_joining c.args.name.now c.args.digest.now c.self.inside.backend c.add_tenant-joined.new.self
-    c.add_tenant-joined.result c.self.invariant (c.add_tenant-joined.ensures.answers.follows.lived live.0)
-    (c.add_tenant-joined.ensures.told live.0) told)
+    (λ live. told_taken c.args.digest.now (HasJoined c.args.name.now c.args.digest.now) (Err DigestTaken) (λ before after joined. joined.0.1)
+    c.self.invariant c.add_tenant-joined.ensures.answers c.add_tenant-joined.ensures.told live.0)
 
 pub returns-clause-named : goal.returns-clause-named
 returns-clause-named g c =
@@ -43,10 +43,6 @@ returns-clause-named g c =
           c.names_are_given.ensures.joining c.args.name.now c.args.digest.now before
           (record { schema = before.schema; trees = db }) ledgers joined.0 joined.1)
           c.self.inside.backend c.add_tenant-joined.new.self c.is_settled.ensures c.self.invariant
-          c.add_tenant-joined.ensures.answers.follows (λ unready. (c.add_tenant-joined.ensures.answers.refuses unready).1)
-          c.add_tenant-joined.ensures.finds c.is_settled-2.ensures c.add_tenant-joined.ensures.answers.usable
-          (ending_of c.add_tenant-joined.result)
-          (λ live. joins_go c.args.name.now c.args.digest.now _ _ c.add_tenant-joined.result (told live))
-          (λ honest differs.
-          c.add_tenant-joined.ensures.answers.open_yet honest (λ is. differs (ap ending_of is)));
+          c.add_tenant-joined.ensures.finds c.is_settled-2.ensures c.add_tenant-joined.ensures.answers ending_of refl
+          (λ live. joins_go c.args.name.now c.args.digest.now _ _ c.add_tenant-joined.result (told live));
     })

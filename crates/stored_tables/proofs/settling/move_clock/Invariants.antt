@@ -1,0 +1,16 @@
+use Rattle.std.proofs.Common.{map}
+use Rattle.std.specs.Map.Iter.{deref}
+use Rattle.sqlite.specs.State.{HasCleanDisk}
+use Rattle.sqlite.specs.Held.{state}
+use Rattle.ledger_sql.specs.Frames.{Follows}
+use Rattle.stored_tables.specs.Kept.{kept_in}
+use Rattle.stored_tables.proofs.ReleasedAll.{ReleasesSeen}
+use Rattle.stored_tables.proofs.settling.move_clock.Given as goal
+
+-- what the loop keeps: of the keys that were seen no transfer is left, once what is kept is written
+abbrev pub invariant-loop-entry : goal.invariant-loop-entry
+invariant-loop-entry g l =
+    (goal.iterator-loop-entry g).can_next l.entry-iterator
+    × (goal.iterator-loop-entry g).is_finite l.entry-iterator
+    × (HasCleanDisk (state g.S.Store l.conn) → ReleasesSeen l.tenant.0 l.clock (kept_in l.kept.items) (map deref l.yielded) (state g.S.Store l.fn.conn) (state g.S.Store l.conn))
+    × Follows (state g.S.Store l.fn.conn) (state g.S.Store l.conn)
