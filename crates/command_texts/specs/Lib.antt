@@ -4,5 +4,4 @@ pub mod Dates
 pub mod Faults
 pub mod Lines
 pub mod Linting
-pub mod Routes
 pub mod Words

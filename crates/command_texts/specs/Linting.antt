@@ -1,11 +1,11 @@
 -- What is told of a body that is judged without a service.
-use Rattle.std.specs.Prelude.{◌≡◌, ◌⊎◌, ℕ, List, [], ◌∷◌, ◌++◌, Option, None, Some, Ok, codes}
+use Rattle.std.specs.Prelude.{◌≡◌, ◌⊎◌, ℕ, List, [], ◌∷◌, ◌++◌, Option, None, Some, codes}
 use Rattle.std.specs.Io.KnownBytes.{Appends}
 use Rattle.ledger_http.specs.declared.route.Route.{Route}
+use Rattle.ledger_http.specs.Routes.{posted_route}
 use Rattle.wire.specs.declared.body_fault.BodyFault.{BodyFault}
 use Rattle.wire.specs.Faults.{IsBodyFaultOn, place_in, refusal_in, told_place, told_refusal}
 use Rattle.command_texts.specs.BodyLines.{body_line}
-use Rattle.command_texts.specs.Routes.{posted_route}
 
 -- `ok` and 0 where the service takes the body on the route
 abbrev pub TellsGood : Route → List ℕ → Option (List ℕ) → Option (List ℕ) → ℕ → Type 0
@@ -29,5 +29,5 @@ TellsBad route body old new status =
 abbrev pub Lints : List ℕ → List ℕ → Option (List ℕ) → Option (List ℕ) → ℕ → Type 0
 Lints path body old new status =
     (route : Route)
-    × (posted_route path ≡ Ok route)
+    × (posted_route path ≡ Some route)
     × (TellsGood route body old new status ⊎ TellsBad route body old new status)

@@ -8,7 +8,6 @@ mod fault;
 mod lines;
 mod linting;
 mod moments;
-mod routes;
 mod words;
 
 pub use fault::Fault;

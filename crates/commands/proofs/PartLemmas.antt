@@ -9,7 +9,7 @@ use Rattle.chain.specs.declared.reads.ReadFault.TheVariants as fault
 use Rattle.parts.specs.Parts.{IsPart, IsPartTold}
 use Rattle.parts.specs.declared.rest.Part.{Part}
 use Rattle.parts.specs.declared.rest.Rest.{Rest}
-use Rattle.wire.specs.declared.request.Request.TheVariants.{Statement}
+use Rattle.wire.specs.declared.read.Read.TheVariants.{Statement}
 use Rattle.service.specs.Courses.{Ending, Done, Declined, Unavailable, Happens, Tried}
 use Rattle.service.specs.Deeds.{IsDeedDone}
 use Rattle.service.specs.Openings.{run_meaning, FoundAfter, As_now, As_before, As_done, IsSettled, Moves}
@@ -31,7 +31,7 @@ kept_done :
     IsDeedDone (asked_for digest account) old new
 kept_done digest account old new keeps = record {
   may = tt;
-  own = keeps digest ∙ sym (left_alone (Statement account) 0 (λ m. refl) (old digest));
+  own = keeps digest ∙ sym (left_alone (Statement account) 0 (old digest));
   others = λ other differs. keeps other;
 }
 

@@ -5,6 +5,7 @@ use Rattle.sqlite_disk.specs.declared.Disk as disk
 use Rattle.sqlite_trees.specs.Tree.{Trees}
 use Rattle.records.specs.Machine.{Machine}
 use Rattle.records.specs.declared.query.Span.{Span}
+use Rattle.wire.specs.declared.read.Read.TheVariants as read
 use Rattle.wire.specs.declared.request.Request.TheVariants as asks
 use Rattle.chain.specs.Backends.{in_use}
 use Rattle.chain.specs.declared.account_entry.AccountEntry.{AccountEntry}
@@ -50,7 +51,7 @@ machine_named name trees = option_and_then (tenants_in trees) (digest_in name tr
 
 -- the tenant's own question for the statement: reading a piece for an operator changes as little
 abbrev pub asked_for : List ℕ → ℕ → Deed
-asked_for digest account = Asked digest (Ok (asks.Statement account)) 0
+asked_for digest account = Asked digest (Ok (asks.Read (read.Statement account))) 0
 
 module _ {D : Type 0} {g : disk.Ghosts D} where
   -- a piece is read for an operator: nothing is as it was not for any tenant

@@ -1,6 +1,6 @@
 -- The routes, and which of them a path has.
-use Rattle.std.specs.Prelude.{ℕ, List, [], ◌∷◌, codes, Option, option_map, Result, Ok, Err, nat_eq, drop, length, if◌then◌else◌}
-use Rattle.std.specs.List.{fold, starts_with}
+use Rattle.std.specs.Prelude.{ℕ, List, [], ◌∷◌, bytes_eq, codes, Option, option_map, Result, Ok, Err, nat_eq, drop, length, if◌then◌else◌}
+use Rattle.std.specs.List.{filter, find, fold, starts_with}
 use Rattle.matchit.specs.Rows.{RowsOf}
 use Rattle.matchit.specs.Order.{placed}
 use Rattle.matchit.specs.Route.{parse_route, Scan}
@@ -47,6 +47,14 @@ abbrev pub all_routes : List Route
 all_routes =
     Accounts ∷ Transfers ∷ LookupAccounts ∷ LookupTransfers ∷ HistoryTransfers ∷ HistoryBalances
     ∷ QueryAccounts ∷ QueryTransfers ∷ LookupPending ∷ OpenPending ∷ Statement ∷ []
+
+-- those to which bodies are posted
+abbrev pub posted_routes : List Route
+posted_routes = filter (λ route. bytes_eq (method_of route) (codes "POST")) all_routes
+
+-- the one of them that has a path
+abbrev pub posted_route : List ℕ → Option Route
+posted_route path = find (λ route. bytes_eq path (path_of route)) posted_routes
 
 -- the rows of a router with one more; a path that is none adds none
 abbrev pub rows_with :

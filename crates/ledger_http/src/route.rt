@@ -1,5 +1,5 @@
 ghost use Rattle.std.specs.Prelude.{◌≡◌};
-ghost use Rattle.ledger_http.specs.Routes.{path_of, method_of};
+ghost use Rattle.ledger_http.specs.Routes.{path_of, method_of, posted_route};
 
 /// What a request asks for.
 #[derive(Clone, Copy, Debug, PartialEq, Eq)]
@@ -54,6 +54,25 @@ impl Route {
         match self {
             Route::Statement => b"GET",
             _ => b"POST",
+        }
+    }
+
+    /// The route of a path to which bodies are posted, or none.
+    pub fn posted_at(path: &str) -> Option<Route>
+        ensures { result ≡ posted_route path.now }
+    {
+        match path {
+            "/accounts" => Some(Route::Accounts),
+            "/transfers" => Some(Route::Transfers),
+            "/accounts/lookup" => Some(Route::LookupAccounts),
+            "/transfers/lookup" => Some(Route::LookupTransfers),
+            "/history/transfers" => Some(Route::HistoryTransfers),
+            "/history/balances" => Some(Route::HistoryBalances),
+            "/query/accounts" => Some(Route::QueryAccounts),
+            "/query/transfers" => Some(Route::QueryTransfers),
+            "/pending/lookup" => Some(Route::LookupPending),
+            "/pending/open" => Some(Route::OpenPending),
+            _ => None,
         }
     }
 }

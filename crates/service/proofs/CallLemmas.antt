@@ -1,6 +1,5 @@
 -- Requests that are served over the ledgers, by batches and by reads.
 use Rattle.std.proofs.Common.{◌≡◌, ◌∙◌, true, ℕ, List, Result, Ok, Err, IfSome, sym, ap, subst}
-use Rattle.records.specs.Machine.{Machine}
 use Rattle.records.specs.declared.unavailable.Unavailable.TheVariants.{Disk}
 use Rattle.chain.specs.declared.ledgers.BatchFault.{BatchFault}
 use Rattle.chain.specs.declared.ledgers.BatchFault.TheVariants as batch
@@ -10,12 +9,13 @@ use Rattle.chain.specs.LedgerReads.{IsShown, ReadsTenant, seen_in}
 use Rattle.ledger_http.specs.declared.refusal.Refusal.{Refusal}
 use Rattle.ledger_http.specs.declared.reply.Reply.{Reply}
 use Rattle.wire.specs.declared.outcome.Outcome.{Outcome}
+use Rattle.wire.specs.declared.read.Read.{Read}
 use Rattle.wire.specs.declared.request.Request.{Request}
+use Rattle.wire.specs.declared.request.Request.TheVariants as asks
 use Rattle.service.specs.declared.begun.Begun.{Begun}
 use Rattle.service.specs.Begun.{IsLeftOf, whole}
 use Rattle.service.specs.Calls.{BeginsOver, ServesOver}
 use Rattle.service.specs.Reading.{BeginsRead}
-use Rattle.service.specs.Served.{left_by}
 use Rattle.service.specs.Replies.{Gives, Serves, batch_reply}
 use Rattle.service.proofs.BatchGives.{serves_by_batch}
 use Rattle.service.proofs.BegunLemmas.{finds_whole, serves_whole}
@@ -30,6 +30,13 @@ pub begins_as_asked :
     BeginsOver t digest (Ok asked) moment old new begun
 begins_as_asked {t} {digest} {moment} {old} {new} {begun} is begins =
     subst (λ (r : Request). BeginsOver t digest (Ok r) moment old new begun) (sym is) begins
+
+-- the same of a read
+pub begins_as_read :
+    {S : Type 0} {t : LedgersMeaning S} {digest : List ℕ} {asked read : Read} {moment : ℕ} {old new : S}
+    {begun : Begun} → asked ≡ read → BeginsOver t digest (Ok (asks.Read read)) moment old new begun →
+    BeginsOver t digest (Ok (asks.Read asked)) moment old new begun
+begins_as_read is begins = begins_as_asked (ap asks.Read is) begins
 
 -- a batch
 pub batch_serves :
@@ -73,21 +80,21 @@ begins_served t digest asked meaning moment old new reply begun is whole_is over
 
 -- a read, as a reply that is begun
 pub begins_read :
-    {S A X : Type 0} {t : LedgersMeaning S} {digest : List ℕ} {asked : Request} {moment : ℕ} {old new : S}
+    {S A X : Type 0} {t : LedgersMeaning S} {digest : List ℕ} {asked : Read} {moment : ℕ} {old new : S}
     {Shows : X → Outcome → Type 0} {read : Result X ReadFault} {begun : Begun} (r : Reading A X) →
-    asked ≡ r.request → ((m : Machine) → left_by m moment r.request ≡ m) →
+    asked ≡ r.read →
     ((found : X) (outcome : Outcome) → Shows found outcome → outcome ≡ told_seen r.shows (Ok (r.sees found))) →
     ReadsTenant t digest (λ tenant. IsShown r.sees (seen_in r.answers tenant)) old new read →
-    BeginsRead Shows read begun → BeginsOver t digest (Ok asked) moment old new begun
-begins_read {t} {digest} {asked} {moment} {old} {new} {Shows} {read} {begun} r is same so reads begins = record {
+    BeginsRead Shows read begun → BeginsOver t digest (Ok (asks.Read asked)) moment old new begun
+begins_read {t} {digest} {asked} {moment} {old} {new} {Shows} {read} {begun} r is so reads begins = record {
   serves = λ live.
-      serves_whole (t.tenants old) (t.tenants new) digest (Ok asked) moment begins.reply begun begins.is
-      (serves_by_read (t.tenants old) (t.tenants new) digest asked r.request moment begins.reply is
-      same (reads.reads.same live)
+      serves_whole (t.tenants old) (t.tenants new) digest (Ok (asks.Read asked)) moment begins.reply begun begins.is
+      (serves_by_read (t.tenants old) (t.tenants new) digest asked r.read moment begins.reply is
+      (reads.reads.same live)
       (begins.text _ (tells_by r moment Shows so _ read (reads.told live))));
   failed = λ has. begins.is ∙ ap whole (begins.failed Disk (reads.failed has));
   finds = finds_whole t old new _ begins.reply begun begins.is
-      (finds_by_read t old new asked r.request moment digest _ _ is same begins.told reads.finds);
+      (finds_by_read t old new asked r.read moment digest _ _ is begins.told reads.finds);
   left = none_left t old new begins.reply begun begins.is;
   follows = reads.reads.follows;
 }

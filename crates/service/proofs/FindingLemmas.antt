@@ -6,8 +6,10 @@ use Rattle.chain.specs.declared.ledgers.BatchFault.{BatchFault}
 use Rattle.chain.specs.declared.ledgers.BatchFault.TheVariants as batch
 use Rattle.chain.specs.Ledgers.{Tenants, LedgersMeaning, KeepsAll, Finds, IsAnswered, LeadsBy}
 use Rattle.ledger_http.specs.declared.reply.Reply.{Reply}
+use Rattle.wire.specs.declared.read.Read.{Read}
 use Rattle.wire.specs.declared.request.Request.{Request}
-use Rattle.service.specs.Served.{left_by, served_to}
+use Rattle.wire.specs.declared.request.Request.TheVariants as asks
+use Rattle.service.specs.Served.{served_to}
 use Rattle.service.specs.Deeds.{Asked, IsDeedDone}
 use Rattle.service.specs.Replies.{Gives, batch_reply, unavailable}
 use Rattle.service.proofs.ServedReads.{left_alone}
@@ -74,22 +76,21 @@ finds_by_batch t old new request moment digest result reply is =
     (batch_leads request moment digest)
 
 kept_left :
-    (digest : List ℕ) (asked request : Request) (moment : ℕ) → asked ≡ request →
-    ((m : Machine) → left_by m moment request ≡ m) → (was now : Tenants) → KeepsAll was now →
-    IsDeedDone (Asked digest (Ok asked) moment) was now
-kept_left digest asked request moment is same was now keeps =
-    subst (λ (r : Request). IsDeedDone (Asked digest (Ok r) moment) was now) (sym is) (record {
+    (digest : List ℕ) (asked read : Read) (moment : ℕ) → asked ≡ read → (was now : Tenants) →
+    KeepsAll was now → IsDeedDone (Asked digest (Ok (asks.Read asked)) moment) was now
+kept_left digest asked read moment is was now keeps =
+    subst (λ (r : Read). IsDeedDone (Asked digest (Ok (asks.Read r)) moment) was now) (sym is)
+    (record {
       may = tt;
-      own = keeps digest ∙ sym (left_alone request moment same (was digest));
+      own = keeps digest ∙ sym (left_alone read moment (was digest));
       others = λ other differs. keeps other;
     })
 
 -- a read
 pub finds_by_read :
-    {S : Type 0} (t : LedgersMeaning S) (old new : S) (asked request : Request) (moment : ℕ)
-    (digest : List ℕ) (A B : Type 0) → asked ≡ request →
-    ((m : Machine) → left_by m moment request ≡ m) → (B → A) → Finds t A KeepsAll old new →
-    Finds t B (IsDeedDone (Asked digest (Ok asked) moment)) old new
-finds_by_read t old new asked request moment digest A B is same answered =
-    finds_on t old new A B KeepsAll (IsDeedDone (Asked digest (Ok asked) moment)) answered
-    (kept_left digest asked request moment is same)
+    {S : Type 0} (t : LedgersMeaning S) (old new : S) (asked read : Read) (moment : ℕ)
+    (digest : List ℕ) (A B : Type 0) → asked ≡ read → (B → A) → Finds t A KeepsAll old new →
+    Finds t B (IsDeedDone (Asked digest (Ok (asks.Read asked)) moment)) old new
+finds_by_read t old new asked read moment digest A B is answered =
+    finds_on t old new A B KeepsAll (IsDeedDone (Asked digest (Ok (asks.Read asked)) moment))
+    answered (kept_left digest asked read moment is)

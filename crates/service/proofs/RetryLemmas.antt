@@ -34,13 +34,7 @@ module _ (Leads : Machine → Machine → Type 0) (laws : StepLaws Leads)
     left_leads : (m : Machine) (moment : ℕ) (request : Request) → Leads m (left_by m moment request)
     left_leads m moment (asks.Accounts events) = laws.accounts m events moment
     left_leads m moment (asks.Transfers events) = laws.transfers m events moment
-    left_leads m moment (asks.LookupAccounts ids) = laws.itself m
-    left_leads m moment (asks.LookupTransfers ids) = laws.itself m
-    left_leads m moment (asks.HistoryTransfers asked) = laws.itself m
-    left_leads m moment (asks.HistoryBalances asked) = laws.itself m
-    left_leads m moment (asks.Query asked) = laws.itself m
-    left_leads m moment (asks.LookupPending ids) = laws.itself m
-    left_leads m moment (asks.Statement account) = laws.itself m
+    left_leads m moment (asks.Read asked) = laws.itself m
 
     served_leads :
         (m : Machine) (meaning : Result Request Refusal) (moment : ℕ) →

@@ -9,42 +9,45 @@ use Rattle.ledger_http.specs.declared.reply.Reply.{Reply}
 use Rattle.ledger_http.specs.declared.reply.Reply.TheVariants.{Fixed}
 use Rattle.ledger_http.specs.ReplyText.{reply_text}
 use Rattle.wire.specs.declared.outcome.Outcome.TheVariants.{Refused}
+use Rattle.wire.specs.declared.read.Read.{Read}
 use Rattle.wire.specs.declared.request.Request.{Request}
+use Rattle.wire.specs.declared.request.Request.TheVariants as asks
 use Rattle.wire.specs.Told.{outcome_text}
-use Rattle.service.specs.Served.{left_by, served_to}
+use Rattle.service.specs.Served.{served_to}
 use Rattle.service.specs.Replies.{AnswersTenant, Serves, unavailable}
 
+-- a read leaves a tenant as it is
 pub left_alone :
-    (request : Request) (moment : ℕ) → ((m : Machine) → left_by m moment request ≡ m) →
-    (tenant : Option Machine) → (served_to tenant (Ok request) moment).left ≡ tenant
-left_alone request moment same None = refl
-left_alone request moment same (Some m) = ap (λ (m : Machine). Some m) (same m)
+    (read : Read) (moment : ℕ) (tenant : Option Machine) →
+    (served_to tenant (Ok (asks.Read read)) moment).left ≡ tenant
+left_alone read moment None = refl
+left_alone read moment (Some m) = refl
 
 by_read :
-    (old new : Tenants) (digest : List ℕ) (request : Request) (moment : ℕ) (reply : Reply) →
-    ((m : Machine) → left_by m moment request ≡ m) → KeepsAll old new →
+    (old new : Tenants) (digest : List ℕ) (read : Read) (moment : ℕ) (reply : Reply) →
+    KeepsAll old new →
     (reply ≢ unavailable →
-    reply_text reply ≡ outcome_text (served_to (old digest) (Ok request) moment).told) →
-    Serves old new digest (Ok request) moment reply
-by_read old new digest request moment reply same keeps text = record {
+    reply_text reply ≡ outcome_text (served_to (old digest) (Ok (asks.Read read)) moment).told) →
+    Serves old new digest (Ok (asks.Read read)) moment reply
+by_read old new digest read moment reply keeps text = record {
   answered = λ ne. record {
     told = text ne;
-    own = keeps digest ∙ sym (left_alone request moment same (old digest));
+    own = keeps digest ∙ sym (left_alone read moment (old digest));
     others = λ other differs. keeps other;
   };
   same = λ is. keeps;
 }
 
--- a request that changes no machine
+-- a read, which changes no machine
 pub serves_by_read :
-    (old new : Tenants) (digest : List ℕ) (asked request : Request) (moment : ℕ) (reply : Reply) →
-    asked ≡ request → ((m : Machine) → left_by m moment request ≡ m) → KeepsAll old new →
+    (old new : Tenants) (digest : List ℕ) (asked read : Read) (moment : ℕ) (reply : Reply) →
+    asked ≡ read → KeepsAll old new →
     (reply ≢ unavailable →
-    reply_text reply ≡ outcome_text (served_to (old digest) (Ok request) moment).told) →
-    Serves old new digest (Ok asked) moment reply
-serves_by_read old new digest asked request moment reply is same keeps text =
-    subst (λ (r : Request). Serves old new digest (Ok r) moment reply) (sym is)
-    (by_read old new digest request moment reply same keeps text)
+    reply_text reply ≡ outcome_text (served_to (old digest) (Ok (asks.Read read)) moment).told) →
+    Serves old new digest (Ok (asks.Read asked)) moment reply
+serves_by_read old new digest asked read moment reply is keeps text =
+    subst (λ (r : Read). Serves old new digest (Ok (asks.Read r)) moment reply) (sym is)
+    (by_read old new digest read moment reply keeps text)
 
 told_known :
     (tenant : Option Machine) (refusal : Refusal) (moment : ℕ) → is_some tenant ≡ true →

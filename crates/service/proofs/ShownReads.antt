@@ -13,24 +13,23 @@ use Rattle.ledger_http.specs.ReplyText.{reply_text}
 use Rattle.wire.specs.declared.outcome.Entries.{Entries}
 use Rattle.wire.specs.declared.outcome.Outcome.{Outcome}
 use Rattle.wire.specs.declared.outcome.Outcome.TheVariants.{Page, Refused}
-use Rattle.wire.specs.declared.request.Request.{Request}
+use Rattle.wire.specs.declared.read.Read.{Read}
+use Rattle.wire.specs.declared.request.Request.TheVariants as asks
 use Rattle.wire.specs.Told.{outcome_text}
 use Rattle.service.specs.declared.begun.Begun.{Begun}
 use Rattle.service.specs.Begun.{whole}
 use Rattle.service.specs.Reading.{BeginsRead, ShowsPage, TellsBy, refusal_of}
 use Rattle.service.specs.Replies.{unavailable}
-use Rattle.service.specs.Served.{answer_told, served_to, told_by}
+use Rattle.service.specs.Served.{answer_told, read_told, served_to}
 
--- how a request for a read is answered: what is asked of the machine, how that is shown, and what a
+-- how a read is answered: what is asked of the machine, how that is shown, and what a
 -- caller of the ledgers sees it in
 pub record Reading (A X : Type 0) : Type 0 where
-  pub request : Request
+  pub read : Read
   pub answers : Machine → AccountAnswer A
   pub shows : ℕ → A → Outcome
   pub sees : X → Seen A
-  pub tells :
-      (moment : ℕ) (m : Machine) →
-      told_by m moment request ≡ answer_told (shows m.clock) (answers m)
+  pub tells : (m : Machine) → read_told m read ≡ answer_told (shows m.clock) (answers m)
 
 -- what is seen, as it is told
 abbrev pub told_seen : {A : Type 0} → (ℕ → A → Outcome) → Result (Seen A) ReadFault → Outcome
@@ -47,14 +46,14 @@ by_answer shows clock (Found answer) = refl
 module _ {A X : Type 0} (r : Reading A X) (moment : ℕ) where
   told_so :
       (tenant : Option Machine) →
-      (served_to tenant (Ok r.request) moment).told ≡ told_seen r.shows (seen_in r.answers tenant)
+      (served_to tenant (Ok (asks.Read r.read)) moment).told ≡ told_seen r.shows (seen_in r.answers tenant)
   told_so None = refl
-  told_so (Some m) = r.tells moment m ∙ by_answer r.shows m.clock (r.answers m)
+  told_so (Some m) = r.tells m ∙ by_answer r.shows m.clock (r.answers m)
 
   -- what is seen is told
   told_as_seen :
       (tenant : Option Machine) (seen : Result (Seen A) ReadFault) → seen_in r.answers tenant ≡ seen →
-      (served_to tenant (Ok r.request) moment).told ≡ told_seen r.shows seen
+      (served_to tenant (Ok (asks.Read r.read)) moment).told ≡ told_seen r.shows seen
   told_as_seen tenant seen is = told_so tenant ∙ ap (told_seen r.shows) is
 
   -- what is found is told, and so is a fault of the tenant
@@ -64,7 +63,7 @@ module _ {A X : Type 0} (r : Reading A X) (moment : ℕ) where
       outcome ≡ told_seen r.shows (Ok (r.sees found))) →
       (tenant : Option Machine) (read : Result X ReadFault) →
       IsShown r.sees (seen_in r.answers tenant) read →
-      TellsBy Shows (served_to tenant (Ok r.request) moment).told read
+      TellsBy Shows (served_to tenant (Ok (asks.Read r.read)) moment).told read
   tells_by Shows so tenant (Ok found) is =
       λ outcome shown. told_as_seen tenant (Ok (r.sees found)) is ∙ sym (so found outcome shown)
   tells_by Shows so tenant (Err fault.UnknownKey) is = λ ne. told_as_seen tenant (Err fault.UnknownKey) is

@@ -15,7 +15,8 @@ use Rattle.ledger_http.specs.declared.reply.Reply.{Reply}
 use Rattle.statement.specs.Text.{header_line}
 use Rattle.wire.specs.Told.{outcome_text}
 use Rattle.wire.specs.declared.outcome.Outcome.TheVariants as told
-use Rattle.wire.specs.declared.request.Request.TheVariants.{Statement}
+use Rattle.wire.specs.declared.read.Read.TheVariants.{Statement}
+use Rattle.wire.specs.declared.request.Request.TheVariants.{Read}
 use Rattle.parts.specs.Chunks.{chunks_of, statement_chunks}
 use Rattle.parts.specs.Parts.{IsLeftBehind, IsPart, chunks_behind, chunks_by, chunks_in, whole_rest}
 use Rattle.parts.specs.declared.rest.Part.{Part}
@@ -51,10 +52,10 @@ told_there m account (Some found) is some = refl
 
 told_so :
     (m : Machine) (account moment : ℕ) (tenant : Option Machine) → tenant ≡ Some m → account_in m account ≢ None →
-    outcome_text (served_to tenant (Ok (Statement account)) moment).told
+    outcome_text (served_to tenant (Ok (Read (Statement account))) moment).told
     ≡ chunked_text Csv (statement_chunks (statement_of m account))
 told_so m account moment tenant is there =
-    ap (λ (o : Option Machine). outcome_text (served_to o (Ok (Statement account)) moment).told) is
+    ap (λ (o : Option Machine). outcome_text (served_to o (Ok (Read (Statement account))) moment).told) is
     ∙ ap outcome_text (told_there m account (account_with account m.accounts) refl
     (λ none. there (ap (option_map (with_balances m)) none)))
 
@@ -73,7 +74,7 @@ pub statement_begun :
     (front : Reply) → AreValid old → KeepsAll old new → rest ≡ whole_rest digest account →
     header ≡ header_line → IsPart header (old rest.digest) rest part →
     reply_text front ≡ outcome_text (told.Statement part.chunks) →
-    Serves old new digest (Ok (Statement account)) moment
+    Serves old new digest (Ok (Read (Statement account))) moment
     (reply_of new (record { front = front; rest = part.rest }))
 statement_begun old new digest header account moment rest part front valid keeps rest_is header_is is text =
     let m = is.machine in
@@ -81,7 +82,7 @@ statement_begun old new digest header account moment rest part front valid keeps
     let account_is : rest.account ≡ account = ap (λ (r : Rest). r.account) rest_is in
     let there = subst (λ (a : ℕ). account_in m a ≢ None) account_is is.there in
     serves_by_read old new digest (Statement account) (Statement account) moment
-    (reply_of new (record { front = front; rest = part.rest })) refl (λ m. refl) keeps
+    (reply_of new (record { front = front; rest = part.rest })) refl keeps
     (λ ne.
     left_so m rest new part.rest (keeps rest.digest ∙ is.is) is.behind front
     ∙ ap (λ (bytes : List ℕ). bytes ++ chunks_in m part.rest) text

@@ -19,8 +19,10 @@ use Rattle.wire.specs.declared.outcome.Entries.{Entries}
 use Rattle.wire.specs.declared.outcome.Entries.TheVariants as entries
 use Rattle.wire.specs.declared.outcome.Outcome.{Outcome}
 use Rattle.wire.specs.declared.outcome.Outcome.TheVariants as told
-use Rattle.wire.specs.declared.request.Query.{Query}
-use Rattle.wire.specs.declared.request.Query.TheVariants as query
+use Rattle.wire.specs.declared.read.Query.{Query}
+use Rattle.wire.specs.declared.read.Query.TheVariants as query
+use Rattle.wire.specs.declared.read.Read.{Read}
+use Rattle.wire.specs.declared.read.Read.TheVariants as read
 use Rattle.wire.specs.declared.request.Request.{Request}
 use Rattle.wire.specs.declared.request.Request.TheVariants as asks
 use Rattle.wire.specs.Meaning.{meaning_of}
@@ -56,34 +58,32 @@ query_told m (query.Transfers asked) =
 query_told m (query.OpenPending asked) =
     page_told entries.OpenHolds m.clock (open_holds m asked)
 
+-- what a machine tells a read
+abbrev pub read_told : Machine → Read → Outcome
+read_told m (read.LookupAccounts ids) = told.Accounts m.clock (found_accounts m ids)
+read_told m (read.LookupTransfers ids) = told.Transfers m.clock (found_transfers m ids)
+read_told m (read.HistoryTransfers asked) =
+    answer_told (told.Transfers m.clock) (history_answer m asked)
+read_told m (read.HistoryBalances asked) =
+    answer_told (told.Balances m.clock) (history_balances_answer m asked)
+read_told m (read.Query asked) = query_told m asked
+read_told m (read.LookupPending ids) = told.Holds m.clock (found_holds m ids)
+read_told m (read.Statement account) =
+    answer_told (λ rows. told.Statement (statement_chunks rows)) (statement_answer m account Oldest)
+
 -- what a machine tells a request at a moment
 abbrev pub told_by : Machine → ℕ → Request → Outcome
 told_by m moment (asks.Accounts events) =
     batch_told told.AccountResults (step_outcome account_rules m events moment)
 told_by m moment (asks.Transfers events) =
     batch_told told.TransferResults (step_outcome transfer_rules m events moment)
-told_by m moment (asks.LookupAccounts ids) = told.Accounts m.clock (found_accounts m ids)
-told_by m moment (asks.LookupTransfers ids) = told.Transfers m.clock (found_transfers m ids)
-told_by m moment (asks.HistoryTransfers asked) =
-    answer_told (told.Transfers m.clock) (history_answer m asked)
-told_by m moment (asks.HistoryBalances asked) =
-    answer_told (told.Balances m.clock) (history_balances_answer m asked)
-told_by m moment (asks.Query asked) = query_told m asked
-told_by m moment (asks.LookupPending ids) = told.Holds m.clock (found_holds m ids)
-told_by m moment (asks.Statement account) =
-    answer_told (λ rows. told.Statement (statement_chunks rows)) (statement_answer m account Oldest)
+told_by m moment (asks.Read asked) = read_told m asked
 
 -- the machine after it: batches are steps, and reads change nothing
 abbrev pub left_by : Machine → ℕ → Request → Machine
 left_by m moment (asks.Accounts events) = step_machine account_rules m events moment
 left_by m moment (asks.Transfers events) = step_machine transfer_rules m events moment
-left_by m moment (asks.LookupAccounts ids) = m
-left_by m moment (asks.LookupTransfers ids) = m
-left_by m moment (asks.HistoryTransfers asked) = m
-left_by m moment (asks.HistoryBalances asked) = m
-left_by m moment (asks.Query asked) = m
-left_by m moment (asks.LookupPending ids) = m
-left_by m moment (asks.Statement account) = m
+left_by m moment (asks.Read asked) = m
 
 -- what a machine tells and what it is after a request, or after one that is refused
 abbrev pub served_by : Machine → Result Request Refusal → ℕ → Served Machine

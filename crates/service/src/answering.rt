@@ -8,14 +8,12 @@ ghost use Rattle.service.specs.Calls.{BeginsOver, ServesOver};
 
 use crate::batches::BatchEvents;
 use crate::begun::Begun;
-use crate::querying::begin_query;
-use crate::showing::begin_list;
-use crate::statements::begin_statement;
+use crate::reading::begin_read;
 use chain::Ledgers;
 use ledger_http::{Asked, Refusal, Reply};
 use std::alloc::Global;
 use tenants::digest;
-use wire::{Outcome, Request, meaning};
+use wire::{Request, meaning};
 
 // Serves a request that is not refused, and begins the reply.
 fn serve_request<L: Ledgers>(
@@ -36,33 +34,7 @@ fn serve_request<L: Ledgers>(
         Request::Transfers(events) => {
             BatchEvents::Transfers(events).begin(alloc, ledgers, digest, moment)
         }
-        Request::LookupAccounts(ids) => {
-            let found = ledgers.lookup_accounts(alloc, digest, ids.as_slice());
-            let shows = |clock, accounts| Outcome::Accounts { clock, accounts };
-            begin_list(alloc, found, shows)
-        }
-        Request::LookupTransfers(ids) => {
-            let found = ledgers.lookup_transfers(alloc, digest, ids.as_slice());
-            let shows = |clock, transfers| Outcome::Transfers { clock, transfers };
-            begin_list(alloc, found, shows)
-        }
-        Request::HistoryTransfers(asked) => {
-            let found = ledgers.history_transfers(alloc, digest, &asked);
-            let shows = |clock, transfers| Outcome::Transfers { clock, transfers };
-            begin_list(alloc, found, shows)
-        }
-        Request::HistoryBalances(asked) => {
-            let found = ledgers.history_balances(alloc, digest, &asked);
-            let shows = |clock, balances| Outcome::Balances { clock, balances };
-            begin_list(alloc, found, shows)
-        }
-        Request::Query(query) => begin_query(alloc, ledgers, digest, &query),
-        Request::LookupPending(ids) => {
-            let found = ledgers.lookup_pending(alloc, digest, ids.as_slice());
-            let shows = |clock, holds| Outcome::Holds { clock, holds };
-            begin_list(alloc, found, shows)
-        }
-        Request::Statement(account) => begin_statement(alloc, ledgers, digest, account),
+        Request::Read(read) => begin_read(alloc, ledgers, digest, read),
     }
 }
 

@@ -9,6 +9,7 @@ mod exchanging;
 mod laws;
 mod moments;
 mod querying;
+mod reading;
 mod responding;
 mod round;
 mod serving;

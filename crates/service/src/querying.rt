@@ -1,5 +1,6 @@
 //! Queries of one tenant's ledger, as the pages that replies show.
 ghost use Rattle.std.specs.Prelude.{ℕ, Ok};
+ghost use Rattle.wire.specs.declared.read.Read.TheVariants as read;
 ghost use Rattle.wire.specs.declared.request.Request.TheVariants as asks;
 ghost use Rattle.service.specs.Calls.{BeginsOver};
 
@@ -16,8 +17,8 @@ pub(crate) fn begin_query<L: Ledgers>(
     digest: &[u8; 32],
     query: &Query,
 ) -> Begun
-    ensures { (moment : ℕ) → BeginsOver L.means digest.now (Ok (asks.Query query.now)) moment
-        ledgers.old ledgers.new result }
+    ensures { (moment : ℕ) → BeginsOver L.means digest.now
+        (Ok (asks.Read (read.Query query.now))) moment ledgers.old ledgers.new result }
 {
     match query {
         Query::Accounts(asked) => {

@@ -3,7 +3,8 @@ ghost use Rattle.std.specs.Prelude.{◌≡◌, ◌≢◌, ℕ, Ok, Some};
 ghost use Rattle.chain.specs.Ledgers.{Finds, KeepsAll};
 ghost use Rattle.chain.specs.LedgerReads.{ReadsOnly};
 ghost use Rattle.ledger_http.specs.ReplyText.{reply_text};
-ghost use Rattle.wire.specs.declared.request.Request.TheVariants.{Statement};
+ghost use Rattle.wire.specs.declared.read.Read.TheVariants.{Statement};
+ghost use Rattle.wire.specs.declared.request.Request.TheVariants.{Read};
 ghost use Rattle.service.specs.Begun.{reply_with};
 ghost use Rattle.service.specs.Calls.{BeginsOver};
 ghost use Rattle.service.specs.Replies.{unavailable};
@@ -24,7 +25,7 @@ pub(crate) fn begin_statement<L: Ledgers>(
     digest: &[u8; 32],
     account: u128,
 ) -> Begun
-    ensures { (moment : ℕ) → BeginsOver L.means digest.now (Ok (Statement account)) moment
+    ensures { (moment : ℕ) → BeginsOver L.means digest.now (Ok (Read (Statement account))) moment
         ledgers.old ledgers.new result }
 {
     let rest = Rest::whole(*digest, account);

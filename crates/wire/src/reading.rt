@@ -3,7 +3,7 @@ ghost use Rattle.wire.specs.Meaning.{meaning_of, account_in, HasFew};
 
 use crate::body::{read_accounts, read_ids, read_one, read_transfers};
 use crate::fields::read_number;
-use crate::{Items, Query, Request};
+use crate::{Items, Query, Read, Request};
 use ledger_http::{Asked, Refusal, Route};
 use std::alloc::Global;
 
@@ -17,19 +17,21 @@ pub fn meaning(alloc: Global, asked: &Asked) -> Result<Request, Refusal>
     ensures err { IfErr result (λ e. e ≢ Refusal.Unavailable
         → meaning_of asked.now.route asked.now.account.now asked.now.body.now ≡ Err e) }
 {
-    Ok(match asked.route {
-        Route::Accounts => Request::Accounts(read_accounts(alloc, asked.body)?.into()),
-        Route::Transfers => Request::Transfers(read_transfers(alloc, asked.body)?.into()),
-        Route::LookupAccounts => Request::LookupAccounts(read_ids(alloc, asked.body)?.into()),
-        Route::LookupTransfers => Request::LookupTransfers(read_ids(alloc, asked.body)?.into()),
-        Route::HistoryTransfers => Request::HistoryTransfers(read_one(alloc, asked.body)?),
-        Route::HistoryBalances => Request::HistoryBalances(read_one(alloc, asked.body)?),
-        Route::QueryAccounts => Request::Query(Query::Accounts(read_one(alloc, asked.body)?)),
-        Route::QueryTransfers => Request::Query(Query::Transfers(read_one(alloc, asked.body)?)),
-        Route::LookupPending => Request::LookupPending(read_ids(alloc, asked.body)?.into()),
-        Route::OpenPending => Request::Query(Query::OpenPending(read_one(alloc, asked.body)?)),
-        Route::Statement => Request::Statement(read_account(asked.account)?),
-    })
+    Ok(Request::Read(match asked.route {
+        Route::Accounts => return Ok(Request::Accounts(read_accounts(alloc, asked.body)?.into())),
+        Route::Transfers => return Ok(Request::Transfers(read_transfers(
+            alloc, asked.body,
+        )?.into())),
+        Route::LookupAccounts => Read::LookupAccounts(read_ids(alloc, asked.body)?.into()),
+        Route::LookupTransfers => Read::LookupTransfers(read_ids(alloc, asked.body)?.into()),
+        Route::HistoryTransfers => Read::HistoryTransfers(read_one(alloc, asked.body)?),
+        Route::HistoryBalances => Read::HistoryBalances(read_one(alloc, asked.body)?),
+        Route::QueryAccounts => Read::Query(Query::Accounts(read_one(alloc, asked.body)?)),
+        Route::QueryTransfers => Read::Query(Query::Transfers(read_one(alloc, asked.body)?)),
+        Route::LookupPending => Read::LookupPending(read_ids(alloc, asked.body)?.into()),
+        Route::OpenPending => Read::Query(Query::OpenPending(read_one(alloc, asked.body)?)),
+        Route::Statement => Read::Statement(read_account(asked.account)?),
+    }))
 }
 
 // The account in the path of a statement.

@@ -1,30 +1,11 @@
-use crate::Items;
-use records::{AccountEvent, AccountFilter, PageFilter, QueryFilter, TransferEvent};
+use crate::{Items, Read};
+use records::{AccountEvent, TransferEvent};
 
-/// Which records a page is asked for.
-#[derive(Clone, Copy, Debug, PartialEq, Eq)]
-pub enum Query {
-    Accounts(QueryFilter),
-    Transfers(QueryFilter),
-    /// The pending transfers that are open.
-    OpenPending(PageFilter),
-}
-
-/// What a request asks for, route by route.
+/// What a request asks for: a batch, or what is read.
 #[derive(Debug, Drop)]
 pub enum Request {
-    /// At most 1,000 events, as all lists here.
+    /// At most 1,000 events, as all lists here and in `Read`.
     Accounts(Items<AccountEvent>),
     Transfers(Items<TransferEvent>),
-    /// The ids of the accounts that are looked up.
-    LookupAccounts(Items<u128>),
-    /// The ids of the transfers that are looked up.
-    LookupTransfers(Items<u128>),
-    HistoryTransfers(AccountFilter),
-    HistoryBalances(AccountFilter),
-    Query(Query),
-    /// The ids of the pending transfers that are looked up.
-    LookupPending(Items<u128>),
-    /// The id of the account.
-    Statement(u128),
+    Read(Read),
 }

@@ -1,4 +1,5 @@
 use Rattle.std.proofs.Common.{inl, inr, Ok}
+use Rattle.wire.specs.declared.read.Read.TheVariants as read
 use Rattle.wire.specs.declared.request.Request.TheVariants as asks
 use Rattle.commands.specs.Endings.{ending_told}
 use Rattle.commands.proofs.OrderLemmas.{rest_so}
@@ -17,7 +18,7 @@ pub returns-in-Ok-Some-clause-read : goal.returns-in-Ok-Some-clause-read
 returns-in-Ok-Some-clause-read g c =
     rw (← c.store.view_is) (inr (
       _,
-      both_move _ (Ok (asks.Statement c.args.account)) 0 c.store.inside.backend c.digest_of-found.new.self
+      both_move _ (Ok (asks.Read (read.Statement c.args.account))) 0 c.store.inside.backend c.digest_of-found.new.self
           c.entries_of.new.store
           c.digest_of-found.result c.store.invariant c.digest_of-found.ensures.reads (ending_told c.entries_of.result)
           c.entries_of.ensures.moves,

@@ -4,7 +4,7 @@ use super::writing::{PLAIN, SMALL, is_json, items};
 use ledger_http::{Refusal, Route};
 use records::{Hold, PageFilter, PageFlags, PendingState, QueryFilter, Tags};
 use std::test::Fail;
-use wire::{Entries, Outcome, Query, Request};
+use wire::{Entries, Outcome, Query, Read, Request};
 
 /// Other bodies that ask for no page at all.
 const BAD_PAGES: [&[u8]; 12] = [
@@ -84,7 +84,7 @@ const LEAST_PAGE: PageFilter = PageFilter {
 // The query of a request.
 fn query(request: Request) -> Option<Query> {
     match request {
-        Request::Query(query) => Some(query),
+        Request::Read(Read::Query(query)) => Some(query),
         _ => None,
     }
 }

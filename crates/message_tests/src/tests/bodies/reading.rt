@@ -8,7 +8,7 @@ use std::alloc::{AllocError, Global};
 use std::process::Abort;
 use std::test::Fail;
 use tenants::Key;
-use wire::{Request, meaning, read_accounts, read_transfers};
+use wire::{Read, Request, meaning, read_accounts, read_transfers};
 
 pub(super) const POSTS: [Route; 10] = [
     Route::Accounts,
@@ -200,18 +200,20 @@ fn listed(alloc: Global, request: Request) -> Result<Option<(Route, Vec<u128>)>,
             }
             Some((Route::Transfers, ids))
         }
-        Request::LookupAccounts(ids) => Some((Route::LookupAccounts, ids.into_vec())),
-        Request::LookupTransfers(ids) => Some((Route::LookupTransfers, ids.into_vec())),
-        Request::LookupPending(ids) => Some((Route::LookupPending, ids.into_vec())),
-        _ => None,
+        Request::Read(read) => match read {
+            Read::LookupAccounts(ids) => Some((Route::LookupAccounts, ids.into_vec())),
+            Read::LookupTransfers(ids) => Some((Route::LookupTransfers, ids.into_vec())),
+            Read::LookupPending(ids) => Some((Route::LookupPending, ids.into_vec())),
+            _ => None,
+        },
     })
 }
 
 // The route of a request with a filter, and the filter.
 fn filtered(request: Request) -> Option<(Route, AccountFilter)> {
     match request {
-        Request::HistoryTransfers(asked) => Some((Route::HistoryTransfers, asked)),
-        Request::HistoryBalances(asked) => Some((Route::HistoryBalances, asked)),
+        Request::Read(Read::HistoryTransfers(asked)) => Some((Route::HistoryTransfers, asked)),
+        Request::Read(Read::HistoryBalances(asked)) => Some((Route::HistoryBalances, asked)),
         _ => None,
     }
 }
@@ -244,7 +246,7 @@ fn understands_the_account_of_a_statement(rt: HostRuntime) {
             ..posted(&rt, Route::Statement, b"\xff")
         };
         let told = match meaning(rt.alloc(), &asked) {
-            Ok(Request::Statement(id)) => Ok(id),
+            Ok(Request::Read(Read::Statement(id))) => Ok(id),
             Ok(_) => Err(Refusal::NoRoute),
             Err(refusal) => Err(refusal),
         };

@@ -1,7 +1,4 @@
-use Rattle.std.proofs.Common.{rules, refl, ◌∙◌, ap, sym}
-use Rattle.wire.specs.declared.request.Request.TheVariants.{LookupAccounts, LookupTransfers, LookupPending}
-use Rattle.service.proofs.CallLemmas.{begins_as_asked, begins_read}
-use Rattle.service.proofs.Readings.{accounts_by_id, transfers_by_id, holds_by_id, transfers_of, balances_of}
+use Rattle.service.proofs.CallLemmas.{begins_as_asked}
 use Rattle.service.proofs.answering.serve_request.Goals as goal
 
 pub returns-in-Accounts : goal.returns-in-Accounts
@@ -12,35 +9,6 @@ pub returns-in-Transfers : goal.returns-in-Transfers
 returns-in-Transfers g c =
     begins_as_asked c.in-Transfers.is c.begin-in-Transfers.ensures
 
-pub returns-in-LookupAccounts : goal.returns-in-LookupAccounts
-returns-in-LookupAccounts g c =
-    begins_read (accounts_by_id _) (c.in-LookupAccounts.is ∙ ap LookupAccounts (sym c.as_slice.ensures)) (λ m. refl)
-    (λ list outcome shown. search rules) c.lookup_accounts-found.ensures c.begin_list.ensures
-
-pub returns-in-LookupTransfers : goal.returns-in-LookupTransfers
-returns-in-LookupTransfers g c =
-    begins_read (transfers_by_id _) (c.in-LookupTransfers.is ∙ ap LookupTransfers (sym c.as_slice-in-LookupTransfers.ensures)) (λ m. refl)
-    (λ list outcome shown. search rules) c.lookup_transfers-found.ensures c.begin_list-in-LookupTransfers.ensures
-
-pub returns-in-HistoryTransfers : goal.returns-in-HistoryTransfers
-returns-in-HistoryTransfers g c =
-    begins_read (transfers_of _) c.in-HistoryTransfers.is (λ m. refl)
-    (λ list outcome shown. search rules) c.history_transfers-found.ensures c.begin_list-in-HistoryTransfers.ensures
-
-pub returns-in-HistoryBalances : goal.returns-in-HistoryBalances
-returns-in-HistoryBalances g c =
-    begins_read (balances_of _) c.in-HistoryBalances.is (λ m. refl)
-    (λ list outcome shown. search rules) c.history_balances-found.ensures c.begin_list-in-HistoryBalances.ensures
-
-pub returns-in-LookupPending : goal.returns-in-LookupPending
-returns-in-LookupPending g c =
-    begins_read (holds_by_id _) (c.in-LookupPending.is ∙ ap LookupPending (sym c.as_slice-in-LookupPending.ensures)) (λ m. refl)
-    (λ list outcome shown. search rules) c.lookup_pending-found.ensures c.begin_list-in-LookupPending.ensures
-
-pub returns-in-Query : goal.returns-in-Query
-returns-in-Query g c =
-    begins_as_asked c.in-Query.is (c.begin_query.ensures c.args.moment)
-
-pub returns-in-Statement : goal.returns-in-Statement
-returns-in-Statement g c =
-    begins_as_asked c.in-Statement.is (c.begin_statement.ensures c.args.moment)
+pub returns-in-Read : goal.returns-in-Read
+returns-in-Read g c =
+    begins_as_asked c.in-Read.is (c.begin_read.ensures c.args.moment)

@@ -1,28 +1,18 @@
 use Rattle.std.proofs.Common.{◌≡◌, ℕ, List, Some, refl, sym, ◌∙◌}
 use Rattle.records.specs.declared.reply.EventResult.{EventResult}
-use Rattle.records.specs.declared.filter.Order.TheVariants.{Oldest}
 use Rattle.records.specs.Machine.{Machine}
-use Rattle.records.specs.Reads as reads
-use Rattle.records.specs.Reads.{AccountAnswer, Found, history_answer, history_balances_answer}
-use Rattle.records.specs.Reads.{statement_answer}
 use Rattle.records.specs.Step.{account_rules, transfer_rules, step_outcome, Answered, Exhausted}
 use Rattle.records.specs.Step as step
 use Rattle.engine.specs.Following.{ContinuesAfter, TellsClock, StepsTellClock}
 use Rattle.wire.specs.declared.outcome.Outcome.{Outcome}
 use Rattle.wire.specs.declared.outcome.Outcome.TheVariants as told
-use Rattle.wire.specs.declared.request.Query.{Query}
-use Rattle.wire.specs.declared.request.Query.TheVariants as query
 use Rattle.wire.specs.declared.request.Request.{Request}
 use Rattle.wire.specs.declared.request.Request.TheVariants as asks
-use Rattle.parts.specs.Chunks.{statement_chunks}
 use Rattle.service.specs.Following.{clock_in}
-use Rattle.service.specs.Served.{answer_told, batch_told, told_by, left_by, query_told}
+use Rattle.service.specs.Served.{batch_told, told_by, left_by}
+use Rattle.service.proofs.Readings.{IsClockOf, read_clock}
 use Rattle.service.proofs.RetryLemmas.{asked_leads}
 use Rattle.service.proofs.laws.told_in_course_stays.Goals as goal
-
--- a reply tells this clock, if any
-abbrev IsClockOf : ℕ → Outcome → Type 0
-IsClockOf now reply = (clock : ℕ) → clock_in reply ≡ Some clock → now ≡ clock
 
 batch_clock :
     {R : Type 0} (shows : ℕ → List (EventResult R) → Outcome) →
@@ -33,18 +23,6 @@ batch_clock shows clocks (Answered at results) now tells clock is =
     let same : Some at ≡ Some clock = sym (clocks at results) ∙ is in
     cc
 batch_clock shows clocks Exhausted now tells clock is = absurd (cc)
-
-query_clock : (m : Machine) (asked : Query) → IsClockOf m.clock (query_told m asked)
-query_clock m (query.Accounts asked) clock is = cc
-query_clock m (query.Transfers asked) clock is = cc
-query_clock m (query.OpenPending asked) clock is = cc
-
-answer_clock :
-    {A : Type 0} (shows : A → Outcome) (now : ℕ) → ((answer : A) → IsClockOf now (shows answer)) →
-    (answer : AccountAnswer A) → IsClockOf now (answer_told shows answer)
-answer_clock shows now clocks reads.NoAccount clock is = absurd (cc)
-answer_clock shows now clocks reads.NoHistory clock is = absurd (cc)
-answer_clock shows now clocks (Found answer) clock is = clocks answer clock is
 
 told_clock :
     StepsTellClock account_rules → StepsTellClock transfer_rules → (m : Machine) (moment : ℕ)
@@ -57,18 +35,7 @@ told_clock of_accounts of_transfers m moment (asks.Transfers events) =
     batch_clock told.TransferResults (λ clock results. refl)
     (step_outcome transfer_rules m events moment) (left_by m moment (asks.Transfers events)).clock
     (of_transfers m events moment)
-told_clock of_accounts of_transfers m moment (asks.LookupAccounts ids) = λ clock is. cc
-told_clock of_accounts of_transfers m moment (asks.LookupTransfers ids) = λ clock is. cc
-told_clock of_accounts of_transfers m moment (asks.HistoryTransfers asked) =
-    answer_clock (told.Transfers m.clock) m.clock (λ answer clock is. cc) (history_answer m asked)
-told_clock of_accounts of_transfers m moment (asks.HistoryBalances asked) =
-    answer_clock (told.Balances m.clock) m.clock (λ answer clock is. cc)
-    (history_balances_answer m asked)
-told_clock of_accounts of_transfers m moment (asks.Query asked) = query_clock m asked
-told_clock of_accounts of_transfers m moment (asks.LookupPending ids) = λ clock is. cc
-told_clock of_accounts of_transfers m moment (asks.Statement account) =
-    answer_clock (λ rows. told.Statement (statement_chunks rows)) m.clock
-    (λ answer clock is. absurd (cc)) (statement_answer m account Oldest)
+told_clock of_accounts of_transfers m moment (asks.Read asked) = read_clock m asked
 
 pub returns : goal.returns
 returns c digest request moment m now asked =
