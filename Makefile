@@ -51,7 +51,7 @@ session: ledgerd
 	python3 examples/session/compare.py examples/session/README.md
 	python3 examples/session/compare.py --blocks README.md
 
-# `rt ci`, with a wrong body of each function that has any: build/gate.py.
+# `rt ci`, with a wrong body of each function that another crate may call: build/gate.py.
 test:
 	python3 build/gate.py
 

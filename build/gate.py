@@ -1,4 +1,4 @@
-"""The gate: `rt ci`, in which a crate's wrong bodies are tried together, one of each function.
+"""The gate: `rt ci`, in which a crate's wrong bodies are tried together.
 
     python3 build/gate.py                      the gate
     python3 build/gate.py must-fail [CRATE..]  all wrong bodies, and nothing else
@@ -18,9 +18,10 @@ callers need. What else the check was asked for is proved there, or lacks nothin
 it turns: else all is proved in one check more, and where that tells nothing each of its wrong bodies is
 tried by itself. So what was refused was refused for its body.
 
-The gate tries one wrong body of each function that has any, the first by name, in one check a crate;
-and those that are tried by themselves. `must-fail` tries the others too: each further one of a function
-costs a check, which goes on over what the first has proved.
+The gate tries one wrong body of each function that another crate may call, the first by name, and of
+each file that has none of these one; in one check a crate. It tries those that stand alone too.
+`must-fail` tries the others as well: each further one of a function costs a check, which goes on over
+what the first has proved.
 
 All else is the toolchain's own, from the library beside `rt`; where that has not the parts that are
 called here, each wrong body is tried as `rt ci` does. There are as many lanes as `build/lanes.py`
@@ -40,13 +41,8 @@ import tempfile
 import threading
 
 import lanes
+from wrong_bodies import groups, lacks_more, of_the_gate
 
-FN = re.compile(r"(\s*)(?:pub(?:\([^)]*\))? )?(?:const )?(?:unsafe )?fn (\w+)")
-# What begins methods whose names are plain: those of a type whose parameters are letters, and of a trait
-# that is over one name at most.
-LETTERS = r"(?:<(?:, |'\w+|[A-Z]\b(?:: [^<>]*)?)*>)?"
-OWNER = re.compile(rf"impl{LETTERS} (?:(\w+)(?:<(\w+)>)? for )?(\w+){LETTERS}(?: where .*)?(?: \{{)?$")
-SAYS = re.compile(r"fn (\S+): (.*)")
 # A proof that is left open: a function's theorem without one.
 HOLE = """use {module} as stated
 
@@ -56,8 +52,6 @@ pub {name}_spec : {{M : Type 1}} → stated.statement M
 # The last line of a check of some functions, with holes and without, and the flags of it.
 HOLES = r"only=\d+ holes=\d+", ["--allow-holes"]
 WHOLE = r"only=\d+ proved=\d+", []
-# What is said of a function that lacks nothing but others.
-LACKS = re.compile(r"(?:no proof:|not proved;)(?: [^;]*, which (?:is|are) not proved(?:;|$))+")
 
 
 def toolchain():
@@ -69,182 +63,6 @@ def toolchain():
     sys.argv = [path]
     loader.exec_module(rt)
     return rt
-
-
-def function_at(lines, at, is_body=False):
-    """The name of the function in whose body a line stands, and its first line; or None. If the line
-    is given a body it may also stand before the function's own."""
-    for begin in range(at, -1, -1):
-        found = FN.match(lines[begin])
-        if found:
-            break
-    else:
-        return None
-    indent = found[1]
-    for head in range(begin, at + 1):
-        line = lines[head]
-        if line == f"{indent}}}":
-            return None
-        opens = line == f"{indent}{{" or line.endswith("{") and (
-            head == begin or line.startswith(f"{indent})"))
-        if opens:
-            return (found[2], begin) if head < at or is_body else None
-    return (found[2], begin) if is_body else None
-
-
-def owner(lines, begin):
-    """The type whose method begins at a line, as a check names it, or None where it is no method, or the
-    name is not plain. Of a trait's method it is the type's name, the trait's and that which it is over."""
-    if not FN.match(lines[begin])[1]:
-        return None
-    found = OWNER.match(next((it for it in lines[begin::-1] if it.startswith(("impl", "unsafe"))), ""))
-    trait, over, kind = found.groups() if found else (None, None, None)
-    return kind and kind + ("" if trait in (None, "Drop") else trait + (over or ""))
-
-
-class WrongBody:
-    """An edit: what it replaces, as files, texts and new texts, and where that stands: functions'
-    names, each with its file, its lines and what a check is asked for to prove it; or None among
-    these."""
-
-    def __init__(self, crate, path):
-        self.path, self.pairs = path, []
-        file = old = None
-        for line in pathlib.Path(path).read_text().split("\n"):
-            key, _, rest = line.partition(": ") if ": " in line else line.partition(":")
-            if key == "file":
-                file = rest.strip()
-            elif key == "old":
-                old = rest
-            elif key == "new":
-                self.pairs.append((file, old, rest))
-        texts = {}
-        self.places = [self.place(crate, texts, *pair) for pair in self.pairs]
-
-    @staticmethod
-    def place(crate, texts, file, old, new):
-        """The name, the file and the lines of the function whose body has a text, or None. The texts
-        of files are as earlier pairs have left them, and this one changes its own."""
-        path = pathlib.Path(crate.folder) / str(file)
-        text = texts.get(file) or (path.read_text() if path.is_file() else "")
-        if not str(file).startswith("src/") or text.count(old) != 1:
-            return None
-        texts[file] = text.replace(old, new)
-        lines = text.split("\n")
-        at = text[: text.index(old)].count("\n")
-        # A body may be given behind a clause, or begin behind the brace that opens it.
-        is_body = new.startswith(f"{old} {{") or old.endswith("{") and new.startswith(old)
-        found = function_at(lines, at, is_body)
-        if not found:
-            return None
-        name, begin = found
-        indent = FN.match(lines[begin])[1]
-        end = next((it for it in range(at, len(lines)) if lines[it] == f"{indent}}}"), at)
-        is_method = FN.match(lines[begin])[1]
-        kind = owner(lines, begin)
-        asked = [kind, name] if kind else module(file) + ([] if is_method else [name])
-        return name, file, range(begin + 1, end + 2), "::".join(asked)
-
-    def stands_alone(self):
-        """Whether it changes something else than functions' bodies."""
-        return not self.places or None in self.places
-
-    def names(self):
-        """The names of the functions, each with its file."""
-        return {(name, file) for name, file, *_ in self.places}
-
-    def asked(self):
-        """What a check is asked for to prove the functions."""
-        return {it for *_, it in self.places}
-
-    def joins(self, group, texts, crate):
-        """Whether it can be tried with others. Then the texts have its words too."""
-        if self.names() & {it for other in group for it in other.names()}:
-            return False
-        changed = {}
-        for file, old, new in self.pairs:
-            text = changed.get(file) or texts.get(file)
-            text = text or (pathlib.Path(crate.folder) / file).read_text()
-            if text.count(old) != 1:
-                return False
-            changed[file] = text.replace(old, new)
-        texts.update(changed)
-        return True
-
-    def refusal(self, lines, names):
-        """The line that says that a function of it is not proved, and not for what it calls, in a check
-        that turns the functions with these names; or None."""
-        for line in lines:
-            for name, file, within, _ in self.places:
-                is_one = sum(other == name for other, _ in names) == 1
-                if is_of(line, name, None if is_one else file):
-                    return line
-                if is_in(line, name, None if is_one else file) or is_at(line, file, within):
-                    return line
-        return None
-
-
-def module(file):
-    """The names of the modules that a file is, below its crate."""
-    names = file[len("src/") : -len(".rt")].split("/")
-    return [] if names in (["lib"], ["main"]) else names
-
-
-def speaks_of(line, name, file=None):
-    """What a line says of a function, if it says something of it. If a file is given, of the one in its
-    modules: but a method in another file than its type's is named by the modules of the type."""
-    said = SAYS.fullmatch(line)
-    if not said:
-        return None
-    _, *path = (re.sub(r"\+.*", "", it) for it in said[1].split("::"))
-    within = module(file) if file else []
-    return said[2] if path[: len(within)] == within and name in path[len(within) :] else None
-
-
-def is_of(line, name, file):
-    """Whether a line says of a function that it is not proved, for itself."""
-    said = speaks_of(line, name, file) or ""
-    return said == "not proved" or said.startswith("no proof") and "did not prove" in said
-
-
-def is_in(line, name, file):
-    """Whether a line tells of what is refused in what is written of a function's proof."""
-    folder = "/".join([*module(file), ""]) if file else ""
-    return bool(re.match(rf"(\./)?proofs/{folder}(.*/)?{name}/\w+\.antt:\d+:\d+: error", line))
-
-
-def is_at(line, file, within):
-    """Whether a line tells of what is not proved at these lines of a file."""
-    at = re.match(r"(?:note: )?(?:\./)?(src/\S+?):(\d+):\d+: (?:error: )?it is not proved", line)
-    return bool(at) and at[1] == file and int(at[2]) in within
-
-
-def lacks_more(line, names):
-    """Whether a line says of a function with none of these names that it is not proved, and not for what
-    it stands on alone."""
-    said = SAYS.fullmatch(line)
-    settled = "proved", "no holes", "depends on a hole", "assumed"
-    if not said or said[2].startswith(settled) or LACKS.fullmatch(said[2]):
-        return False
-    return not any(speaks_of(line, name) for name, _ in names)
-
-
-def groups(crate, edits):
-    """The edits, in as few groups as turn different functions, each with the texts that it leaves."""
-    found = []
-    for path in edits:
-        it = WrongBody(crate, path)
-        if it.stands_alone():
-            continue
-        for group, texts in found:
-            if it.joins(group, texts, crate):
-                group.append(it)
-                break
-        else:
-            texts = {}
-            if it.joins([], texts, crate):
-                found.append(([it], texts))
-    return found
 
 
 def only(asked):
@@ -345,14 +163,16 @@ class Together:
         rt.must_fail, rt.checked = self.tried, self.looked_at
 
     def ordered(self, crate):
-        """`edits_of` of `rt`, with the first of each group in front: all, or the first group and those
+        """`edits_of` of `rt`, with the first of each group in front: all, or those of the gate and those
         that are tried by themselves. What cannot be read is told of all."""
         good, bad = self.edits_of(crate)
-        found = [Group(number, *it) for number, it in enumerate(groups(crate, good))]
+        grouped = groups(crate, good)
         if not self.are_all:
-            later = [it.path for group in found[1:] for it in group.edits]
-            bad = [*bad, *[it for it in later if self.rt.read_edit(it, crate.folder)[1]]]
-            good, found = [it for it in good if it not in later], found[:1]
+            first = [it.path for group, _ in grouped[:1] for it in of_the_gate(group)]
+            left = [it.path for group, _ in grouped for it in group if it.path not in first]
+            bad = [*bad, *[it for it in left if self.rt.read_edit(it, crate.folder)[1]]]
+            good, grouped = [it for it in good if it not in left], groups(crate, first)
+        found = [Group(number, *it) for number, it in enumerate(grouped)]
         self.groups[crate.folder] = {it.path: group for group in found for it in group.edits}
         firsts = [group.edits[0].path for group in found]
         return [*firsts, *[it for it in good if it not in firsts]], bad
