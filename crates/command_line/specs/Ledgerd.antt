@@ -9,13 +9,13 @@ use Rattle.clap.specs.declared.builder.value_parser.ValueParser.TheVariants.{Sig
 abbrev pub text_rule : Text → Rule
 text_rule name = record (new_rule name) { long = Some name; value_names = 1; required = true }
 
--- the same, of a number
-abbrev pub number_rule : Text → ValueParser → Rule
-number_rule name numbers = record (text_rule name) { parser = Some numbers }
-
 -- a port, below 2^16
 abbrev pub ports : ValueParser
 ports = Signed (pos 0) (pos 65535)
+
+-- the option that names the port, which its command must have
+abbrev pub port_rule : Rule
+port_rule = record (text_rule (codes "port")) { parser = Some ports }
 
 -- `--name`, which may be left out
 abbrev pub flag_rule : Text → Rule
@@ -47,7 +47,7 @@ store_app name = record (new_app name) { top = over_store name [] }
 
 -- where to serve, and how long: a port, an address, how many requests to answer, and whether it waits for the file
 abbrev pub serve_rules : List Rule
-serve_rules = number_rule (codes "port") ports ∷ option_rule (codes "address") ∷ requests_rule
+serve_rules = port_rule ∷ option_rule (codes "address") ∷ requests_rule
     ∷ flag_rule (codes "standby") ∷ []
 
 abbrev pub counted_serve_app : App

@@ -2,11 +2,11 @@
 ghost use Rattle.std.specs.Prelude.{IfOk};
 ghost use Rattle.command_line.specs.Ledgerd.{check_shape, copy_shape, counted_serve_app, db_rule, flag_rule};
 ghost use Rattle.command_line.specs.Ledgerd.{ledgerd_app, limit_rule, lint_shape, migrate_shape};
-ghost use Rattle.command_line.specs.Ledgerd.{number_rule, option_rule, program, serve_shape};
+ghost use Rattle.command_line.specs.Ledgerd.{option_rule, port_rule, program, serve_shape};
 ghost use Rattle.command_line.specs.Ledgerd.{statement_shape, status_shape, stop_shape, store_app};
 ghost use Rattle.command_line.specs.Ledgerd.{tenant_shape, tenants_shape, text_rule};
 ghost use Rattle.command_line.specs.Ledgerd.{version_shape, whole_statement_app};
-ghost use Rattle.command_line.specs.Built.{IsLeaf, IsLocalArg, IsProgram};
+ghost use Rattle.command_line.specs.Built.{HasArg, HasCommand, IsLeaf, IsLocalArg, IsProgram};
 
 use crate::{LEAST_ROOM, version_text};
 use clap::builder::ValueParser;
@@ -68,17 +68,12 @@ fn text_option<'a>(alloc: Global, name: &'a str, value: &'a str, help: &'a str) 
         .help(help)
 }
 
-// The same, of a number.
-fn number_option<'a>(
-    alloc: Global,
-    name: &'a str,
-    value: &'a str,
-    numbers: ValueParser<'a>,
-    help: &'a str,
-) -> Arg<'a>
-    ensures { IsLocalArg (number_rule name.entry.now numbers.entry) result }
+// `--port N`, which its command must have.
+fn port_option<'a>(alloc: Global) -> Arg<'a>
+    ensures { IsLocalArg port_rule result }
 {
-    text_option(alloc, name, value, help).value_parser(numbers)
+    let help = "The TCP port to listen on, below 65536, e.g. 8080";
+    text_option(alloc, "port", "N", help).value_parser(value_parser!(u16))
 }
 
 fn db_option<'a>(alloc: Global) -> Arg<'a>
@@ -139,33 +134,50 @@ fn store_command<'a>(
         .arg(db_option(alloc))
 }
 
+// A command with an argument more, where it was made.
+fn with_arg<'a>(
+    command: Result<clap::Command<'a>, AllocError>,
+    arg: Arg<'a>,
+) -> Result<clap::Command<'a>, AllocError>
+    ensures { IfOk result (HasArg command.entry arg.entry) }
+{
+    command?.arg(arg)
+}
+
+// A command with a subcommand more, where both were made.
+fn with_command<'a>(
+    command: Result<clap::Command<'a>, AllocError>,
+    subcommand: Result<clap::Command<'a>, AllocError>,
+) -> Result<clap::Command<'a>, AllocError>
+    ensures { IfOk result (HasCommand command.entry subcommand.entry) }
+{
+    command?.subcommand(subcommand?)
+}
+
 // The command that serves: where, and how long.
 fn counted_serve_command<'a>(alloc: Global) -> Result<clap::Command<'a>, AllocError>
     ensures { IfOk result (IsProgram counted_serve_app) }
 {
     let about = "Answer requests over HTTP, on and on or until a number of replies was written";
-    store_command(alloc, "serve", about)?
-        .arg(number_option(
-            alloc,
-            "port",
-            "N",
-            value_parser!(u16),
-            "The TCP port to listen on, below 65536, e.g. 8080",
-        ))?
-        .arg(free_option(alloc, "address", "IP", ADDRESS_HELP))?
-        .arg(limit_option(alloc, "requests", 0, u64::MAX, REQUESTS_HELP))?
-        .arg(flag(alloc, "standby", STANDBY_HELP))
+    let command = with_arg(store_command(alloc, "serve", about), port_option(alloc));
+    let command = with_arg(command, free_option(alloc, "address", "IP", ADDRESS_HELP));
+    let requests = limit_option(alloc, "requests", 0, u64::MAX, REQUESTS_HELP);
+    let command = with_arg(command, requests);
+    with_arg(command, flag(alloc, "standby", STANDBY_HELP))
 }
 
 fn serve_command<'a>(alloc: Global) -> Result<clap::Command<'a>, AllocError>
     ensures { IfOk result (IsLeaf serve_shape) }
 {
-    counted_serve_command(alloc)?
-        .arg(limit_option(alloc, "clients", 1, 100_000, CLIENTS_HELP))?
-        .arg(limit_option(alloc, "room", LEAST_ROOM, 65_536, ROOM_HELP))?
-        .arg(limit_option(alloc, "idle", 1, 86_400, IDLE_HELP))?
-        .arg(limit_option(alloc, "message", 1, 3_600, MESSAGE_HELP))?
-        .arg(limit_option(alloc, "reply", 1, 3_600, REPLY_HELP))
+    let command = counted_serve_command(alloc);
+    let clients = limit_option(alloc, "clients", 1, 100_000, CLIENTS_HELP);
+    let command = with_arg(command, clients);
+    let room = limit_option(alloc, "room", LEAST_ROOM, 65_536, ROOM_HELP);
+    let command = with_arg(command, room);
+    let command = with_arg(command, limit_option(alloc, "idle", 1, 86_400, IDLE_HELP));
+    let message = limit_option(alloc, "message", 1, 3_600, MESSAGE_HELP);
+    let command = with_arg(command, message);
+    with_arg(command, limit_option(alloc, "reply", 1, 3_600, REPLY_HELP))
 }
 
 // A command about a tenant, whose key it takes.
@@ -213,58 +225,34 @@ fn whole_statement_command<'a>(alloc: Global) -> Result<clap::Command<'a>, Alloc
     ensures { IfOk result (IsProgram whole_statement_app) }
 {
     let about = "Write an account's statement, one line an entry";
-    store_command(alloc, "statement", about)?
-        .arg(text_option(
-            alloc,
-            "tenant",
-            "NAME",
-            "The tenant's name, e.g. north-desk",
-        ))?
-        .arg(text_option(
-            alloc,
-            "account",
-            "ID",
-            "The account's id in decimal, below 2^128, e.g. 1001",
-        ))?
-        .arg(flag(
-            alloc,
-            "reversed",
-            "Newest entry first, in place of oldest first",
-        ))
+    let command = store_command(alloc, "statement", about);
+    let tenant = text_option(
+        alloc,
+        "tenant",
+        "NAME",
+        "The tenant's name, e.g. north-desk",
+    );
+    let command = with_arg(command, tenant);
+    let account = "The account's id in decimal, below 2^128, e.g. 1001";
+    let command = with_arg(command, text_option(alloc, "account", "ID", account));
+    let reversed = "Newest entry first, in place of oldest first";
+    with_arg(command, flag(alloc, "reversed", reversed))
 }
 
 fn statement_command<'a>(alloc: Global) -> Result<clap::Command<'a>, AllocError>
     ensures { IfOk result (IsLeaf statement_shape) }
 {
-    whole_statement_command(alloc)?
-        .arg(free_option(
-            alloc,
-            "from",
-            "TIME",
-            "The first moment: a day of UTC, e.g. 2026-11-24, or nanoseconds since 1970",
-        ))?
-        .arg(free_option(
-            alloc,
-            "to",
-            "TIME",
-            "The last moment: the end of a day of UTC, or nanoseconds since 1970",
-        ))?
-        .arg(flag(
-            alloc,
-            "balances",
-            "The sums before the entries first, and those after them last",
-        ))?
-        .arg(flag(
-            alloc,
-            "wide",
-            "The other account, pending id, code and user data of each entry, too",
-        ))?
-        .arg(free_option(
-            alloc,
-            "format",
-            "FORM",
-            "csv, sheet (CSV whose digits a spreadsheet keeps) or json, one object a line",
-        ))
+    let command = whole_statement_command(alloc);
+    let from = "The first moment: a day of UTC, e.g. 2026-11-24, or nanoseconds since 1970";
+    let command = with_arg(command, free_option(alloc, "from", "TIME", from));
+    let to = "The last moment: the end of a day of UTC, or nanoseconds since 1970";
+    let command = with_arg(command, free_option(alloc, "to", "TIME", to));
+    let balances = "The sums before the entries first, and those after them last";
+    let command = with_arg(command, flag(alloc, "balances", balances));
+    let wide = "The other account, pending id, code and user data of each entry, too";
+    let command = with_arg(command, flag(alloc, "wide", wide));
+    let format = "csv, sheet (CSV whose digits a spreadsheet keeps) or json, one object a line";
+    with_arg(command, free_option(alloc, "format", "FORM", format))
 }
 
 fn check_command<'a>(alloc: Global) -> Result<clap::Command<'a>, AllocError>
@@ -313,17 +301,18 @@ fn version_command<'a>(alloc: Global) -> clap::Command<'a>
 pub fn ledgerd_command<'a>(alloc: Global) -> Result<clap::Command<'a>, AllocError>
     ensures { IfOk result (IsProgram ledgerd_app) }
 {
-    named_command(alloc)?
-        .subcommand(serve_command(alloc)?)?
-        .subcommand(tenant_command(alloc, "tenant-add", ADD_ABOUT, KEY_HELP)?)?
-        .subcommand(tenant_command(alloc, "tenant-key", OTHER_KEY_ABOUT, OTHER_KEY_HELP)?)?
-        .subcommand(tenants_command(alloc)?)?
-        .subcommand(status_command(alloc)?)?
-        .subcommand(stop_command(alloc)?)?
-        .subcommand(statement_command(alloc)?)?
-        .subcommand(check_command(alloc)?)?
-        .subcommand(migrate_command(alloc)?)?
-        .subcommand(copy_command(alloc)?)?
-        .subcommand(lint_command(alloc)?)?
-        .subcommand(version_command(alloc))
+    let app = with_command(named_command(alloc), serve_command(alloc));
+    let adding = tenant_command(alloc, "tenant-add", ADD_ABOUT, KEY_HELP);
+    let app = with_command(app, adding);
+    let keying = tenant_command(alloc, "tenant-key", OTHER_KEY_ABOUT, OTHER_KEY_HELP);
+    let app = with_command(app, keying);
+    let app = with_command(app, tenants_command(alloc));
+    let app = with_command(app, status_command(alloc));
+    let app = with_command(app, stop_command(alloc));
+    let app = with_command(app, statement_command(alloc));
+    let app = with_command(app, check_command(alloc));
+    let app = with_command(app, migrate_command(alloc));
+    let app = with_command(app, copy_command(alloc));
+    let app = with_command(app, lint_command(alloc));
+    with_command(app, Ok(version_command(alloc)))
 }

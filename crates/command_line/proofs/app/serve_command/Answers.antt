@@ -1,13 +1,12 @@
 use Rattle.std.proofs.Common.{codes}
-use Rattle.std.proofs.lemmas.Result.{IfOk-weaker}
 use Rattle.command_line.specs.Ledgerd.{counted_serve_app, limit_rule}
-use Rattle.command_line.proofs.Builders.{as_leaf, with_arg}
+use Rattle.command_line.proofs.Builders.{arg_joined, leaf_joined}
 use Rattle.command_line.proofs.app.serve_command.Goals as goal
 
 pub returns : goal.returns
 returns c =
-    let one = with_arg counted_serve_app (limit_rule (codes "clients") 1 100_000) _ _ _ c.in_ok-counted_serve_command.ensures c.limit_option.ensures c.in_ok-arg.ensures in
-    let two = with_arg _ (limit_rule (codes "room") 3 65_536) _ _ _ one c.limit_option-2.ensures c.in_ok-arg-2.ensures in
-    let three = with_arg _ (limit_rule (codes "idle") 1 86_400) _ _ _ two c.limit_option-3.ensures c.in_ok-arg-3.ensures in
-    let four = with_arg _ (limit_rule (codes "message") 1 3_600) _ _ _ three c.limit_option-4.ensures c.in_ok-arg-4.ensures in
-    IfOk-weaker c.arg-5.result _ _ (λ r h. as_leaf _ r (with_arg _ (limit_rule (codes "reply") 1 3_600) _ r _ four c.limit_option-5.ensures h)) c.arg-5.ensures
+    let one = arg_joined counted_serve_app (limit_rule (codes "clients") 1 100_000) _ _ c.limit_option-clients.result c.counted_serve_command-command.ensures c.limit_option-clients.ensures c.with_arg-command.ensures in
+    let two = arg_joined _ (limit_rule (codes "room") 3 65_536) _ _ c.limit_option-room.result one c.limit_option-room.ensures c.with_arg-command-2.ensures in
+    let three = arg_joined _ (limit_rule (codes "idle") 1 86_400) _ _ c.limit_option.result two c.limit_option.ensures c.with_arg-command-3.ensures in
+    let four = arg_joined _ (limit_rule (codes "message") 1 3_600) _ _ c.limit_option-message.result three c.limit_option-message.ensures c.with_arg-command-4.ensures in
+    leaf_joined _ _ (arg_joined _ (limit_rule (codes "reply") 1 3_600) _ _ c.limit_option-2.result four c.limit_option-2.ensures c.with_arg.ensures)
