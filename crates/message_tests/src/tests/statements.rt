@@ -1,5 +1,6 @@
 //! Statements as CSV, row by row and over a period, in other forms, and where the writer fails.
 
+use crate::tests::asserting::same;
 use amount::Amount;
 use failing_streams::Narrow;
 use records::{Balances, Kind, RowSink, Side, SinkFault, StatementRow, Streamed, Sums, Transfer};
@@ -264,9 +265,9 @@ fn leaves_a_beginning_where_the_writer_fails(rt: HostRuntime) {
     for room in 0..text.len() {
         let mut out = with_room(rt.alloc(), room);
         let written = write_statement(rt.alloc(), &mut out, &pending_and_post());
-        assert_eq!(rt; written, Err(StatementFault::Write), "with room for {room}");
+        same(&rt, room, written, Err(StatementFault::Write));
         let Narrow { taken, .. } = out.into_inner();
-        assert_eq!(rt; taken.as_slice(), &text[..room], "with room for {room}");
+        same(&rt, room, taken.as_slice(), &text[..room]);
     }
     let mut out = with_room(rt.alloc(), text.len());
     let written = write_statement(rt.alloc(), &mut out, &pending_and_post());

@@ -142,7 +142,7 @@ fn tells_pages_of_accounts(rt: HostRuntime) -> Result<(), Fail> {
     };
     is_json(
         &rt,
-        &outcome,
+        outcome,
         "38",
         r#"{"accounts":[],"clock":"4","next":"0"}"#,
     )?;
@@ -157,7 +157,7 @@ fn tells_pages_of_accounts(rt: HostRuntime) -> Result<(), Fail> {
         r#""timestamp":"1","user_data_128":"0","user_data_32":0,"user_data_64":"0"}],"#,
         r#""clock":"4","next":"2"}"#
     );
-    is_json(&rt, &outcome, "235", body)
+    is_json(&rt, outcome, "235", body)
 }
 
 #[test]
@@ -169,7 +169,7 @@ fn tells_pages_of_transfers(rt: HostRuntime) -> Result<(), Fail> {
     };
     is_json(
         &rt,
-        &outcome,
+        outcome,
         "39",
         r#"{"clock":"9","next":"0","transfers":[]}"#,
     )?;
@@ -185,7 +185,7 @@ fn tells_pages_of_transfers(rt: HostRuntime) -> Result<(), Fail> {
         r#""ledger":6,"pending_id":"7","timeout":8,"timestamp":"9","user_data_128":"10","#,
         r#""user_data_32":11,"user_data_64":"12"}]}"#
     );
-    is_json(&rt, &outcome, "300", body)
+    is_json(&rt, outcome, "300", body)
 }
 
 // A hold, accepted at this time and due at that one.
@@ -217,7 +217,7 @@ fn tells_holds(rt: HostRuntime) -> Result<(), Fail> {
         r#"{"due":"0","id":"102","state":"voided"},"#,
         r#"{"due":"7","id":"340282366920938463463374607431768211455","state":"expired"}]}"#
     );
-    is_json(&rt, &outcome, "229", body)
+    is_json(&rt, outcome, "229", body)
 }
 
 #[test]
@@ -237,5 +237,5 @@ fn tells_open_holds(rt: HostRuntime) -> Result<(), Fail> {
         r#"{"due":"18446744073709551615","id":"340282366920938463463374607431768211455","#,
         r#""state":"open","timestamp":"18446744073709551614"}]}"#
     );
-    is_json(&rt, &outcome, "218", body)
+    is_json(&rt, outcome, "218", body)
 }

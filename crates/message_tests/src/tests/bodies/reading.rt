@@ -1,4 +1,5 @@
 //! What bodies mean, and which are refused.
+use crate::tests::asserting::{holds, same};
 use amount::Amount;
 use ledger_http::{Asked, Refusal, Route};
 use records::{
@@ -222,7 +223,7 @@ fn filtered(request: Request) -> Option<(Route, AccountFilter)> {
 fn understands_lists(rt: HostRuntime) -> Result<(), Fail> {
     for (route, body, want) in LISTS {
         match listed(rt.alloc(), meant(&rt, route, body)?)? {
-            Some((told, ids)) => assert!(rt; told == route && ids.as_slice() == want, "{route:?}"),
+            Some((told, ids)) => holds(&rt, route, told == route && ids.as_slice() == want),
             None => panic!(rt; "a list"),
         }
     }
@@ -250,7 +251,7 @@ fn understands_the_account_of_a_statement(rt: HostRuntime) {
             Ok(_) => Err(Refusal::NoRoute),
             Err(refusal) => Err(refusal),
         };
-        assert_eq!(rt; told, want.ok_or(Refusal::BadField), "{account}");
+        same(&rt, account, told, want.ok_or(Refusal::BadField));
     }
 }
 
@@ -360,7 +361,7 @@ pub(super) fn refuses<R: Abort + AllocGlobal>(
 ) {
     for body in bodies {
         let told = meaning(rt.alloc(), &posted(rt, route, body)).err();
-        assert_eq!(rt; told, Some(refusal), "{route:?} {body:?}");
+        same(rt, body, told, Some(refusal));
     }
 }
 

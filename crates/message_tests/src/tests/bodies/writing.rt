@@ -1,4 +1,5 @@
 //! What replies spell.
+use crate::tests::asserting::same;
 use amount::Amount;
 use ledger_http::Refusal;
 use records::{
@@ -47,7 +48,7 @@ fn tells_results_of_transfers(rt: HostRuntime) -> Result<(), Fail> {
     for (clock, results, length, body) in TRANSFER_RESULTS {
         let results = items(rt.alloc(), results)?;
         let outcome = Outcome::TransferResults { clock, results };
-        is_json(&rt, &outcome, length, body)?;
+        is_json(&rt, outcome, length, body)?;
     }
     Ok(())
 }
@@ -62,7 +63,7 @@ fn tells_results_of_accounts(rt: HostRuntime) -> Result<(), Fail> {
         r#"{"clock":"1002","results":[{"number":0,"result":"ok","timestamp":"1001"},"#,
         r#"{"number":0,"result":"ok","timestamp":"1002"}]}"#
     );
-    is_json(&rt, &outcome, "120", body)
+    is_json(&rt, outcome, "120", body)
 }
 
 /// An account with nothing but what each has.
@@ -86,7 +87,7 @@ fn tells_accounts(rt: HostRuntime) -> Result<(), Fail> {
         clock: 4,
         accounts: items(rt.alloc(), &[])?,
     };
-    is_json(&rt, &outcome, "27", r#"{"accounts":[],"clock":"4"}"#)?;
+    is_json(&rt, outcome, "27", r#"{"accounts":[],"clock":"4"}"#)?;
     let full = AccountWithBalances {
         account: Account {
             id: u128::MAX,
@@ -113,7 +114,7 @@ fn tells_accounts(rt: HostRuntime) -> Result<(), Fail> {
         r#""ledger":4294967295,"timestamp":"18446744073709551615","user_data_128":"5","#,
         r#""user_data_32":6,"user_data_64":"7"}],"clock":"4"}"#
     );
-    is_json(&rt, &outcome, "492", body)
+    is_json(&rt, outcome, "492", body)
 }
 
 /// A post.
@@ -171,7 +172,7 @@ fn tells_transfers(rt: HostRuntime) -> Result<(), Fail> {
         r#""user_data_128":"340282366920938463463374607431768211455","#,
         r#""user_data_32":4294967295,"user_data_64":"18446744073709551615"}]}"#
     );
-    is_json(&rt, &outcome, "735", body)
+    is_json(&rt, outcome, "735", body)
 }
 
 #[test]
@@ -197,7 +198,7 @@ fn tells_balances(rt: HostRuntime) -> Result<(), Fail> {
         r#""debits_pending":"0","debits_posted":"340282366920938463463374607431768211455","#,
         r#""timestamp":"6"}],"clock":"8"}"#
     );
-    is_json(&rt, &outcome, "306", body)
+    is_json(&rt, outcome, "306", body)
 }
 
 #[test]
@@ -212,9 +213,7 @@ fn tells_statements(rt: HostRuntime) -> Result<(), Fail> {
     let outcome = Outcome::Statement(items(rt.alloc(), chunks.as_bytes())?);
     let head = "HTTP/1.1 200 OK\r\ncontent-type: text/csv\r\ntransfer-encoding: chunked\r\n\r\n";
     let text = format!(in rt.alloc(); "{head}{chunks}")?;
-    let reply = reply_bytes(rt.alloc(), &outcome)?;
-    assert_eq!(rt; reply.bytes(), text.as_bytes());
-    Ok(())
+    is_reply(&rt, outcome, text.as_str())
 }
 
 #[test]
@@ -224,9 +223,7 @@ fn tells_refusals(rt: HostRuntime) -> Result<(), Fail> {
         "content-type: application/json\r\n\r\n",
         r#"{"error":"unknown_key"}"#
     );
-    let reply = reply_bytes(rt.alloc(), &Outcome::Refused(Refusal::UnknownKey))?;
-    assert_eq!(rt; reply.bytes(), text.as_bytes());
-    Ok(())
+    is_reply(&rt, Outcome::Refused(Refusal::UnknownKey), text)
 }
 
 #[test]
@@ -278,16 +275,21 @@ fn balances(sums: [u128; 4]) -> Balances {
     }
 }
 
+/// Ends the test where this is not replied by a text.
+fn is_reply<R: Abort + AllocGlobal>(rt: &R, outcome: Outcome, text: &str) -> Result<(), Fail> {
+    let reply = reply_bytes(rt.alloc(), &outcome)?;
+    same(rt, text, reply.bytes(), text.as_bytes());
+    Ok(())
+}
+
 pub(super) fn is_json<R: Abort + AllocGlobal>(
     rt: &R,
-    outcome: &Outcome,
+    outcome: Outcome,
     length: &str,
     body: &str,
 ) -> Result<(), Fail> {
     let text = format!(in rt.alloc();
         "HTTP/1.1 200 OK\r\ncontent-length: {length}\r\ncontent-type: application/json\r\n\r\n{body}"
     )?;
-    let reply = reply_bytes(rt.alloc(), outcome)?;
-    assert_eq!(rt; reply.bytes(), text.as_bytes(), "{body}");
-    Ok(())
+    is_reply(rt, outcome, text.as_str())
 }

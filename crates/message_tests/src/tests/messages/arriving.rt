@@ -1,4 +1,5 @@
 use super::sample::{is_of_reading, message, reader_of, refused, request_of};
+use crate::tests::asserting::holds;
 use ledger_http::{Inbox, Message, Next, Refusal, read_message};
 use std::alloc::AllocError;
 
@@ -188,7 +189,7 @@ fn refuses_what_is_no_message(rt: HostRuntime) -> Result<(), AllocError> {
         };
         for piece in [1, 4096] {
             let told = first_of(&rt, text.as_bytes(), piece)?;
-            assert!(rt; told == (open, ended), "{text}");
+            holds(&rt, text.as_str(), told == (open, ended));
         }
     }
     Ok(())

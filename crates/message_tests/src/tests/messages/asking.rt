@@ -1,4 +1,5 @@
 use super::sample::{KEY, message, refusal_of, refused};
+use crate::tests::asserting::holds;
 use ledger_http::{Early, Refusal, Route, asked};
 use std::alloc::AllocError;
 use tenants::Key;
@@ -8,7 +9,7 @@ fn refuses_in_order(rt: HostRuntime) -> Result<(), AllocError> {
     for (line, headers, body, refusal) in refused() {
         let text = message(&rt, line, headers, body)?;
         let told = refusal_of(&rt, text.as_bytes());
-        assert!(rt; told == Some(*refusal), "{text}");
+        holds(&rt, text.as_str(), told == Some(*refusal));
     }
     Ok(())
 }
@@ -36,7 +37,7 @@ const ODD: [(&[u8], Refusal); 9] = [
 #[test]
 fn refuses_odd_bytes(rt: HostRuntime) {
     for (bytes, refusal) in ODD {
-        assert!(rt; refusal_of(&rt, bytes) == Some(refusal), "{bytes:?}");
+        holds(&rt, bytes, refusal_of(&rt, bytes) == Some(refusal));
     }
 }
 
@@ -72,9 +73,9 @@ fn reads_requests(rt: HostRuntime) -> Result<(), AllocError> {
         let Ok(request) = asked(rt.alloc(), text.as_bytes()) else {
             panic!(rt; "refused: {line}");
         };
-        assert!(rt; request.route == route && request.key == key, "{line}");
-        assert!(rt; request.account.as_bytes() == account.as_bytes(), "{line}");
-        assert!(rt; request.body == b"[]".as_slice(), "{line}");
+        holds(&rt, line, request.route == route && request.key == key);
+        holds(&rt, line, request.account.as_bytes() == account.as_bytes());
+        holds(&rt, line, request.body == b"[]".as_slice());
     }
     Ok(())
 }
@@ -94,7 +95,11 @@ fn tells_the_page_and_health_to_everybody(rt: HostRuntime) -> Result<(), AllocEr
         for (line, early) in [("GET /", Early::Page), ("GET /health", Early::Health)] {
             let text = message(&rt, line, headers, "[]GET /statement/1 HTTP/1.1\r\n\r\n")?;
             let told = asked(rt.alloc(), text.as_bytes());
-            assert!(rt; matches!(told, Err(told) if told == early), "{text}");
+            holds(
+                &rt,
+                text.as_str(),
+                matches!(told, Err(told) if told == early),
+            );
         }
     }
     Ok(())

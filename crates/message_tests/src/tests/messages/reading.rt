@@ -2,6 +2,7 @@ use super::sample::{
     KEY, is_of_reading, is_read_whole, message, reader_of, refusal_of, refusal_read, refused,
     request_of,
 };
+use crate::tests::asserting::holds;
 use ledger_http::{Message, Refusal, read_message};
 use std::alloc::AllocError;
 
@@ -24,7 +25,7 @@ fn is_told(rt: &impl AllocGlobal, bytes: &[u8], refusal: Refusal) -> bool {
 fn refuses_what_is_no_message(rt: HostRuntime) -> Result<(), AllocError> {
     for (line, headers, body, refusal) in refused() {
         let text = message(&rt, line, headers, body)?;
-        assert!(rt; is_told(&rt, text.as_bytes(), *refusal), "{text}");
+        holds(&rt, text.as_str(), is_told(&rt, text.as_bytes(), *refusal));
     }
     Ok(())
 }
@@ -56,7 +57,7 @@ fn bounds_headers(rt: HostRuntime) -> Result<(), AllocError> {
             headers.push_str("a:\r\n")?;
         }
         let text = message(&rt, "GET /statement/1", &headers, "")?;
-        assert!(rt; refusal_of(&rt, text.as_bytes()) == want, "{count} headers");
+        holds(&rt, count, refusal_of(&rt, text.as_bytes()) == want);
     }
     Ok(())
 }

@@ -1,3 +1,4 @@
+use crate::tests::asserting::holds;
 use failing_streams::Narrow;
 use ledger_http::{ContentType, Early, Refusal, Reply, Text, put_chunk, write_reply};
 use records::Streamed;
@@ -83,7 +84,7 @@ fn is_replied(
 #[test]
 fn has_constant_replies(rt: HostRuntime) -> Result<(), AllocError> {
     for (refusal, status, length, name) in ROWS {
-        assert!(rt; is_replied(&rt, refusal, status, length, name)?, "{name}");
+        holds(&rt, name, is_replied(&rt, refusal, status, length, name)?);
     }
     assert_eq!(rt; Refusal::HeadTooLarge.status().as_u16(), 431);
     Ok(())
@@ -142,7 +143,7 @@ fn writes_replies_or_a_beginning(rt: HostRuntime) -> Result<(), AllocError> {
     let reply = Reply::of_body(rt.alloc(), ContentType::Csv, b"a\n1")?;
     assert!(rt; reply.bytes() == csv.as_slice());
     for room in 0..70 {
-        assert!(rt; is_written(&rt, &reply, room), "with room for {room}");
+        holds(&rt, room, is_written(&rt, &reply, room));
     }
     Ok(())
 }
@@ -168,7 +169,7 @@ fn puts_chunks_behind_others(rt: HostRuntime) -> Result<(), AllocError> {
     for (bytes, chunk) in CHUNKS {
         put_chunk(rt.alloc(), &mut all, bytes.as_bytes())?;
         want.extend_from_slice(chunk.as_bytes())?;
-        assert!(rt; all.as_slice() == want.as_slice(), "behind {chunk}");
+        holds(&rt, chunk, all.as_slice() == want.as_slice());
     }
     Ok(())
 }

@@ -1,4 +1,5 @@
 //! Addresses as words.
+use crate::tests::asserting::same;
 use command_texts::{Fault, address};
 use std::net::{IpAddr, Ipv4Addr, Ipv6Addr};
 
@@ -15,7 +16,7 @@ fn reads_addresses(rt: HostRuntime) {
             IpAddr::V6(Ipv6Addr::new(0x2001, 0xdb8, 0, 0, 0, 0, 0xc000, 0x201)),
         ),
     ] {
-        assert_eq!(rt; address(text), Ok(want), "{text}");
+        same(&rt, text, address(text), Ok(want));
     }
 }
 
@@ -35,6 +36,6 @@ const NO_ADDRESSES: [&str; 10] = [
 #[test]
 fn refuses_other_words(rt: HostRuntime) {
     for text in NO_ADDRESSES {
-        assert_eq!(rt; address(text), Err(Fault::BadAddress), "{text}");
+        same(&rt, text, address(text), Err(Fault::BadAddress));
     }
 }

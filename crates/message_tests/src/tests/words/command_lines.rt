@@ -1,5 +1,6 @@
 //! The words of the command line, read as commands.
 
+use crate::tests::asserting::{holds, same};
 use clap::error::ErrorKind;
 use command_line::{Command, LimitWords, LineFault, StatementWords, command};
 use std::test::Fail;
@@ -231,7 +232,7 @@ fn reads_commands(rt: HostRuntime) -> Result<(), Fail> {
     for (line, want) in lines_read() {
         let words: Vec<&str> = line.split_whitespace().collect(rt.alloc())?;
         let told = command(rt.alloc(), words.as_slice())?;
-        assert!(rt; told == *want, "of {line}");
+        holds(&rt, line, told == *want);
     }
     Ok(())
 }
@@ -368,7 +369,7 @@ const REFUSED: [(ErrorKind, &[&str]); 7] = [
 fn refuses_other_lines(rt: HostRuntime) -> Result<(), Fail> {
     for (kind, lines) in REFUSED {
         for line in lines {
-            assert_eq!(rt; refused(&rt, line)?.kind(), kind, "of {line}");
+            same(&rt, line, refused(&rt, line)?.kind(), kind);
         }
     }
     Ok(())
@@ -379,7 +380,7 @@ fn takes_a_call_for_the_version(rt: HostRuntime) {
     for word in ["--version", "-V"] {
         let words = [word];
         let told = command(rt.alloc(), &words);
-        assert!(rt; matches!(told, Err(LineFault::Version)), "of {word}");
+        holds(&rt, word, matches!(told, Err(LineFault::Version)));
     }
 }
 

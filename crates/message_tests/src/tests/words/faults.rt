@@ -1,4 +1,5 @@
 //! What faults are told by.
+use crate::tests::asserting::holds;
 use command_texts::{Fault, tell_fault, tell_fault_for, tell_new_ledger};
 use records::Streamed;
 use std::test::Fail;
@@ -46,7 +47,7 @@ fn is_told_by(rt: &HostRuntime, fault: Fault, line: &str, status: u8) -> Result<
 #[test]
 fn tells_each_fault(rt: HostRuntime) -> Result<(), Fail> {
     for (fault, line, status) in FAULTS {
-        assert!(rt; is_told_by(&rt, fault, line, status)?, "{line}");
+        holds(&rt, line, is_told_by(&rt, fault, line, status)?);
     }
     assert_eq!(rt; Fault::of_word("bad_route "), None);
     Ok(())

@@ -1,6 +1,7 @@
 //! The help of the commands, and what other faults of a line print.
 
 use super::command_lines::refused;
+use crate::tests::asserting::holds;
 use command_line::{LineFault, version_text};
 use std::test::Fail;
 
@@ -125,7 +126,7 @@ fn prints_faults(rt: HostRuntime) -> Result<(), Fail> {
     ];
     for (line, help) in helps {
         let fault = LineFault::Refused(refused(&rt, line)?);
-        assert!(rt; is_printed_as(&rt, &fault, help)?, "of {line}");
+        holds(&rt, line, is_printed_as(&rt, &fault, help)?);
     }
     assert!(rt; is_printed_as(&rt, &LineFault::Version, version_text())?);
     assert!(rt; is_printed_as(&rt, &LineFault::Memory, "unavailable")?);

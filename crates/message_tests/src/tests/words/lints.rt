@@ -1,4 +1,5 @@
 //! Bodies judged as the service judges them.
+use crate::tests::asserting::same;
 use command_texts::{Fault, lint};
 use records::Streamed;
 use std::test::Fail;
@@ -92,7 +93,7 @@ fn tells_what_is_refused(rt: HostRuntime) -> Result<(), Fail> {
     for (path, body, line) in BAD {
         let (status, told) = linted(&rt, path, body)?;
         let want = format!(in rt.alloc(); "{line}\n")?;
-        assert_eq!(rt; (status, told.as_slice()), (1, want.as_bytes()), "{body}");
+        same(&rt, body, (status, told.as_slice()), (1, want.as_bytes()));
     }
     Ok(())
 }
@@ -109,10 +110,11 @@ const GOOD: [(&str, &str); 5] = [
 fn takes_what_the_service_takes(rt: HostRuntime) -> Result<(), Fail> {
     for (path, body) in GOOD {
         let (status, told) = linted(&rt, path, body)?;
-        assert_eq!(rt;
+        same(
+            &rt,
+            body,
             (status, told.as_slice()),
             (0, b"ok\n".as_slice()),
-            "{body}"
         );
     }
     Ok(())
@@ -145,10 +147,11 @@ fn knows_the_routes_of_bodies(rt: HostRuntime) {
         "/health",
     ] {
         let mut out = Streamed::new(Vec::new(rt.alloc()));
-        assert_eq!(rt;
+        same(
+            &rt,
+            path,
             lint(rt.alloc(), path, b"[]", &mut out),
             Err(Fault::BadRoute),
-            "{path}"
         );
     }
 }

@@ -1,4 +1,5 @@
 //! Times as words. The seconds of a day are those that `date -u` of the GNU core utilities tells.
+use crate::tests::asserting::same;
 use command_texts::{Fault, first_moment, last_moment};
 
 // Days, and the nanoseconds with which each begins and ends.
@@ -55,7 +56,7 @@ const NO_TIMES: [&str; 17] = [
 #[test]
 fn refuses_other_words(rt: HostRuntime) {
     for text in NO_TIMES {
-        assert_eq!(rt; first_moment(text), Err(Fault::BadTime), "{text}");
-        assert_eq!(rt; last_moment(text), Err(Fault::BadTime), "{text}");
+        same(&rt, text, first_moment(text), Err(Fault::BadTime));
+        same(&rt, text, last_moment(text), Err(Fault::BadTime));
     }
 }
