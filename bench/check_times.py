@@ -30,6 +30,8 @@ def main(name, many=20):
         functions[PARTS.sub("", module)] += seconds
         parts[part[1] if part else "the rest"] += seconds
     whole = sum(functions.values())
+    if not whole:
+        sys.exit(f"nothing is kept of a check of {name}")
     for told in parts.most_common(6), functions.most_common(int(many)):
         for what, seconds in told:
             print(f"{seconds:8.1f} s  {100 * seconds / whole:5.1f} %  {what}")
@@ -38,4 +40,6 @@ def main(name, many=20):
 
 
 if __name__ == "__main__":
+    if len(sys.argv) not in (2, 3):
+        sys.exit(__doc__)
     main(*sys.argv[1:])
