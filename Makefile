@@ -1,12 +1,12 @@
 # `make try` looks at ledgerd in minutes, with checks in place of proofs; `make run` proves and
-# builds it and plays the worked session on a new file; `make test` is the gate, and `make must-fail`
-# tries every wrong body. `make session` plays it and compares it with the expected one; `make faults`
+# builds it and plays the worked session on a new file; `make prove` is the gate, `make prove-tests`
+# proves the tests, and `make must-fail` tries every wrong body. `make session` plays it and compares it with the expected one; `make faults`
 # tries what may go wrong, and `make faults-long` all of it, and `make soak` for an hour, or
 # MINUTES=5, all of it at once; `make bench` measures; `make alloc` runs the tests on want of memory
 # with each allocation refused in turn; `make python` tests the client for Python, and `make console`
 # the page for the browser, in chromium; `make fleet`, as root, plays two machines on a replicated
 # volume. `make try` and `make run` take a free port, or PORT=8080; `make try STAY=1` leaves it served.
-.PHONY: run try ledgerd session test must-fail python console fleet faults faults-long soak bench alloc
+.PHONY: run try ledgerd session prove prove-tests must-fail python console fleet faults faults-long soak bench alloc
 
 LEDGERD = crates/ledgerd/out/ledgerd
 PLAY = examples/session/play.sh $(LEDGERD) out/session $(PORT)
@@ -23,8 +23,9 @@ fleet-calls = rt python3 unshare nsenter setpriv ip glusterd gluster mount.glust
 faults-calls = rt python3 cc
 faults-long-calls = $(faults-calls)
 soak-calls = $(faults-calls)
-test-calls = rt python3
-must-fail-calls = $(test-calls)
+prove-calls = rt python3 git
+prove-tests-calls = $(prove-calls)
+must-fail-calls = $(prove-calls)
 lacks = $(if $(shell command -v $(1) 2>/dev/null),,$(1))
 refused = $(shell python3 examples/session/port.py '$(PORT)' >/dev/null 2>&1 || echo $(PORT))
 goals = $(or $(MAKECMDGOALS),run)
@@ -51,13 +52,18 @@ session: ledgerd
 	python3 examples/session/compare.py examples/session/README.md
 	python3 examples/session/compare.py --blocks README.md
 
-# `rt ci`, with a wrong body of each function that another crate may call: build/gate.py.
-test:
-	python3 build/gate.py
+# The gate: every crate of the product from nothing, the program by both compilers, and wrong bodies: of
+# each file that has any one, and with BASE=REV more of each crate that differs from REV.
+prove:
+	+@BASE=$(BASE) python3 build/gate.py prove
+
+# The proofs of the tests, of each crate of tests or of CRATES.
+prove-tests:
+	+@python3 build/gate.py tests $(CRATES)
 
 # All wrong bodies, of each crate or of CRATES.
 must-fail:
-	python3 build/gate.py must-fail $(CRATES)
+	+@python3 build/gate.py must-fail $(CRATES)
 
 # The client for Python: its own tests, and the program killed under it. Then the examples that
 # follow a ledger and sum it up.

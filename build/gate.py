@@ -1,249 +1,264 @@
-"""The gate: `rt ci`, in which a crate's wrong bodies are tried together.
+"""The gate: every crate of the product proved from nothing, the program as both compilers build it, and
+wrong bodies, each of which the prover has to refuse.
 
-    python3 build/gate.py                      the gate
-    python3 build/gate.py must-fail [CRATE..]  all wrong bodies, and nothing else
+    python3 build/gate.py prove                    the gate; with BASE=REV more of what differs from REV
+    python3 build/gate.py tests [CRATE..]          proves the crates of tests, and runs them
+    python3 build/gate.py must-fail [CRATE..]      every wrong body of these crates, or of all
 
-`rt ci` tries each of them in a check of its own, and most of such a check is the same each time: the
-libraries below are read, and the crate's front end runs. Here one check has a wrong body in each of
-many functions, and the prover says of each function whether it is proved, and where it is not. A
-wrong body is refused where that is said of the very function that it stands in, and not only of one
-that it calls. What a function's proof needs of others are their contracts, which no wrong body
-changes, so that none is refused for another's sake. What was not refused so is tried by itself, as
-`rt ci` does, and so is what changes more than functions' bodies.
+It works on a copy of the crates below `.git`, and takes nothing from what checks in `crates/*/out` have
+kept. What it has proved stays there: a later run proves what has changed, and what stands on it. Tests
+are no part of the product, nor are the crates that end in `_tests`: `make test` runs them, and `tests`
+proves them. `rt ci` with no words does all of this too, more slowly: it tries each wrong body by itself.
 
-Such a check is asked for these functions alone (`--only`), and would prove them and what they call. All
-of the crate is proved from nothing in the same run. So of the others each that answers are written for
-is taken by its statement here, with a hole for its proof (`--allow-holes`): the contract is all that its
-callers need. What else the check was asked for is proved there, or lacks nothing but the functions that
-it turns: else all is proved in one check more, and where that tells nothing each of its wrong bodies is
-tried by itself. So what was refused was refused for its body.
+Wrong bodies: of each file that has any the gate tries one. With BASE it tries more of a crate that
+differs from that revision, in its own files or in a definition that it cites: one of each function that
+another crate may call, and one of each file that has no such function. A crate's wrong bodies are tried
+together (build/refusals.py).
 
-The gate tries one wrong body of each function that another crate may call, the first by name, and of
-each file that has none of these one; in one check a crate. It tries those that stand alone too.
-`must-fail` tries the others as well: each further one of a function costs a check, which goes on over
-what the first has proved.
-
-All else is the toolchain's own, from the library beside `rt`; where that has not the parts that are
-called here, each wrong body is tried as `rt ci` does. There are as many lanes as `build/lanes.py`
-tells."""
+Each crate has a line with its seconds, and a log. The last line is 'N passed, M failed'."""
 
 import copy
-import importlib.machinery
-import importlib.util
-import inspect
+import json
 import os
 import pathlib
 import re
+import resource
+import secrets
 import shutil
 import subprocess
 import sys
 import tempfile
 import threading
+import time
+from concurrent.futures import ThreadPoolExecutor
 
+import changed
 import lanes
-from wrong_bodies import groups, lacks_more, of_the_gate
+import prove
+import toolchain
+from refusals import refused
+from wrong_bodies import of_the_gate, one_of_each_file
 
-# A proof that is left open: a function's theorem without one.
-HOLE = """use {module} as stated
-
-pub {name}_spec : {{M : Type 1}} → stated.statement M
-{name}_spec = ?
-"""
-# The last line of a check of some functions, with holes and without, and the flags of it.
-HOLES = r"only=\d+ holes=\d+", ["--allow-holes"]
-WHOLE = r"only=\d+ proved=\d+", []
+TOP = pathlib.Path(__file__).resolve().parent.parent
+FILES = "src", "specs", "proofs", "must-fail", "stdin", "stdout", "args", "status", "data"
 
 
-def toolchain():
-    """The program `rt` as a module."""
-    sys.dont_write_bytecode = True
-    path = os.path.realpath(shutil.which("rt"))
-    loader = importlib.machinery.SourceFileLoader("rt", path)
-    rt = importlib.util.module_from_spec(importlib.util.spec_from_loader("rt", loader))
-    sys.argv = [path]
-    loader.exec_module(rt)
-    return rt
+def room():
+    """The folder that the gate works in."""
+    asked = ["git", "-C", str(TOP), "rev-parse", "--absolute-git-dir"]
+    found = subprocess.run(asked, capture_output=True, text=True)
+    return pathlib.Path(found.stdout.strip() if not found.returncode else tempfile.mkdtemp(), "gate")
 
 
-def only(asked):
-    """The flags by which a check is asked for some functions alone."""
-    return [it for word in sorted(asked) for it in ("--only", word)]
+def copy_crates(names, to):
+    """Has the folder hold these crates as they are, each with what the gate has made of it before."""
+    for gone in {it.name for it in (to / "crates").glob("*")} - {*names}:
+        shutil.rmtree(to / "crates" / gone)
+    for name in names:
+        own, made = TOP / "crates" / name, to / "crates" / name
+        made.mkdir(parents=True, exist_ok=True)
+        for part in FILES:
+            if (made / part).is_dir():
+                shutil.rmtree(made / part)
+            (made / part).unlink(missing_ok=True)
+            if (own / part).is_dir():
+                shutil.copytree(own / part, made / part)
+            elif (own / part).exists():
+                shutil.copy2(own / part, made / part)
+    for file in "crates.txt", "HANDLES":
+        shutil.copy2(TOP / file, to / file)
 
 
-def with_holes(crate, asked, room):
-    """The crate in a folder of its own, in which each function that answers are written for, but those
-    that are asked for, is taken by its statement: its proof is a hole."""
-    crate = copy.copy(crate)
-    for part in filter(lambda it: os.path.isdir(f"{crate.folder}/{it}"), ("src", "specs", "proofs")):
-        shutil.copytree(f"{crate.folder}/{part}", f"{room}/{part}")
-    crate.folder = room
-    for file in pathlib.Path(room, "proofs").rglob("Answers.antt"):
-        folder = file.parent
-        path = folder.relative_to(f"{room}/proofs").parts
-        words = ["::".join(path[at:end]) for end in range(1, len(path) + 1) for at in range(end)]
-        if "fn" in path or "+" in "".join(path) or asked & set(words):
-            continue
-        for name in ("Answers.antt", "Invariants.antt"):
-            folder.joinpath(name).unlink(missing_ok=True)
-        module = ".".join(["Rattle", crate.name, "proofs", *path, "Statement"])
-        folder.joinpath("Proof.antt").write_text(HOLE.format(module=module, name=path[-1]))
-    return crate
+class Program:
+    """Mixed into `Crate` of `rt`: the compilers build a program side by side."""
+
+    def compile_by(self, backend, words, to):
+        if backend == "rattle":
+            return self.other.result()
+        with ThreadPoolExecutor() as pool:
+            self.other = pool.submit(super().compile_by, "rattle", words, to)
+            return super().compile_by(backend, words, to)
 
 
-def ran_group(rt, crate, group, texts, flags, kept):
-    """The lines of a check of a group, with holes or, where that tells nothing, without; or none."""
-    names = {it for each in group for it in each.names()}
-    asked = {it for each in group for it in each.asked()}
-    for last, more in HOLES, WHOLE:
-        with tempfile.TemporaryDirectory(prefix=f"rt-holes-{os.getpid()}-") as room:
-            tried = with_holes(crate, asked, room) if more else crate
-            ran = rt.checked(tried, texts, [*flags, *more, *only(asked)], kept)
-        lines = ran.stdout.rstrip("\n").split("\n")
-        is_read = not any(rt.unread(it, texts) for it in lines)
-        is_over = ran.returncode == 1 and re.match(last, lines[-1])
-        if is_read and is_over and not rt.rtlib.STALE.search(ran.stdout):
-            if not any(lacks_more(it, names) for it in lines):
-                return lines
-    return []
+class Gate:
+    """What was proved and refused before, and what this run has found."""
 
+    def __init__(self, rt, names, to):
+        self.rt, self.to, self.passed, self.failed, self.lock = rt, to, 0, [], threading.Lock()
+        self.kept_file = to / "kept.json"
+        self.kept = json.loads(self.kept_file.read_text()) if self.kept_file.exists() else {}
+        os.chdir(to)
+        rt.Crate.allowed, rt.Crate.cuts_libraries = rt.handles_of(str(to)), True
+        rt.rtlib.Crate = type("Crate", (Program, rt.Crate), {})
+        found = sorted(rt.rtlib.crates_below(str(to)), key=lambda it: len(it.below()))
+        self.all = {it.name: it for it in found}
+        needed = {dep.name for name in names for dep in self.all[name].below()}
+        self.crates = [it for it in found if it.name in {*names, *needed}]
 
-def try_group(rt, crate, group, texts, flags, kept):
-    """What is to be said of each edit of a group that was refused in one check of all."""
-    lines = ran_group(rt, crate, group, texts, flags, kept)
-    names = {it for each in group for it in each.names()}
-    refused = {it.path: it.refusal(lines, names) for it in group}
-    label = f"must-fail {crate.name}"
-    return {path: f"{label}/{os.path.basename(path)}: refused, as it must be: {line[:160]}"
-            for path, line in refused.items() if line}
-
-
-class Group:
-    """Wrong bodies that one check tries, and what it told of those that it refused, once it has
-    run."""
-
-    def __init__(self, number, edits, texts):
-        self.number, self.edits, self.texts = number, edits, texts
-        self.told, self.lock = None, threading.Lock()
-
-    def refusal(self, rt, crate, path, flags, room):
-        """What is to be said of one of them where the check of all refused it, else None. What the
-        check has proved stays in the room for the others where this is the first."""
+    def keep(self, key, value):
+        """Notes that this was done, or with None that it has to be done anew."""
         with self.lock:
-            if self.told is None:
-                self.told = self.tried(rt, crate, flags, room)
-        return self.told.get(path)
+            self.kept[key] = value
+            if value is None:
+                del self.kept[key]
+            self.kept_file.write_text(json.dumps(self.kept, indent=1) + "\n")
 
-    def tried(self, rt, crate, flags, room):
-        first, over = f"{room}/group-0", f"{room}/group-{self.number}"
-        has_first = self.number and os.path.isdir(first)
-        try:
-            rt.linked(first if has_first else f"{room}/seed", over)
-            return try_group(rt, crate, self.edits, self.texts, flags, over)
-        except (OSError, shutil.Error):
-            return {}
-        finally:
-            if self.number:
-                shutil.rmtree(over, ignore_errors=True)
+    def over(self, crate):
+        """What a proof of the crate rests on: its files, and each library below as it was built."""
+        return repr([crate.stamp(), *[self.kept.get(f"proof {it.name}", [])[1:] for it in crate.deps]])
 
+    def is_kept(self, key, over):
+        return self.kept.get(key, [None])[0] == over
 
-class Together:
-    """`rt`, whose tasks for the wrong bodies of a crate wait for the first of their group: that one
-    tries all of it, and the others take what it told. And each group waits for the first one. What was
-    not refused so is tried alone, as `rt ci` does.
+    def refuses_text(self, crate):
+        """Whether the crate's text is refused before any proof, as `rt ci` does."""
+        rt, lib = self.rt, self.rt.rtlib
+        lib.stop_on_links(crate.folder)
+        lib.stop_on_unread(crate.folder, [*self.all.values()])
+        lib.stop_on_text(crate, "verdict")
+        rt.stop_on_words(crate)
+        code = lib.code_of(crate.folder)
+        reaches = [it for it, words in rt.REACHES.items() if it not in crate.allowed]
+        words = [*[rt.REACHES[it] for it in reaches], rt.RENAMES, rt.IGNORED]
+        found = next(filter(None, (re.search(it, code) for it in words)), None)
+        if found:
+            rt.say(f"{crate.name}: `{found[0]}` is refused, as `rt ci` refuses it", crate.out)
+        return bool(found) or bool(lib.fmt(crate.folder, "--check", crate.out))
 
-    `rt` begins them with a check of the crate as it stands, and ends them with another one. Here they
-    begin with nothing, or with what the crate's own check has kept. Only in that case is there another
-    one in the end, since of each group its check has told that all else is proved."""
+    def log(self, key):
+        (self.to / "logs").mkdir(exist_ok=True)
+        return open(self.to / "logs" / f"{key}.log", "w")
 
-    def __init__(self, rt, are_all):
-        self.rt, self.are_all, self.groups, self.has_begun = rt, are_all, {}, set()
-        self.edits_of, self.add_edits = rt.edits_of, rt.add_edits
-        self.must_fail, self.checked = rt.must_fail, rt.checked
-        rt.edits_of, rt.add_edits, rt.seeded = self.ordered, self.added, self.seeded
-        rt.must_fail, rt.checked = self.tried, self.looked_at
+    def prove(self, crate, jobs, tests=False):
+        """Proves a crate, or its tests, from nothing, unless that was done."""
+        key, over = f"{'tests' if tests else 'proof'} {crate.name}", self.over(crate)
+        if self.is_kept(key, over):
+            return True
+        self.keep(key, None)
+        crate = copy.copy(crate)
+        pathlib.Path(crate.folder, "out").mkdir(exist_ok=True)
+        with self.log(key.replace(" ", "-")) as crate.out:
+            is_well = not self.refuses_text(crate) and not crate.ci(["--jobs", str(jobs)], tests)
+        if is_well:
+            self.keep(key, [over, secrets.token_hex(8)])
+        return is_well
 
-    def ordered(self, crate):
-        """`edits_of` of `rt`, with the first of each group in front: all, or those of the gate and those
-        that are tried by themselves. What cannot be read is told of all."""
-        good, bad = self.edits_of(crate)
-        grouped = groups(crate, good)
-        if not self.are_all:
-            first = [it.path for group, _ in grouped[:1] for it in of_the_gate(group)]
-            left = [it.path for group, _ in grouped for it in group if it.path not in first]
-            bad = [*bad, *[it for it in left if self.rt.read_edit(it, crate.folder)[1]]]
-            good, grouped = [it for it in good if it not in left], groups(crate, first)
-        found = [Group(number, *it) for number, it in enumerate(grouped)]
-        self.groups[crate.folder] = {it.path: group for group in found for it in group.edits}
-        firsts = [group.edits[0].path for group in found]
-        return [*firsts, *[it for it in good if it not in firsts]], bad
+    def run(self, crate, tests):
+        """Runs a program as each compiler has built it, or the tests."""
+        ends = [""] if tests else self.rt.BACKENDS.values()
+        made = f"{crate.folder}/out/{crate.name}"
+        return all(self.rt.run(crate, tests, it) for it in ends if tests or os.path.isfile(made + it))
 
-    def seeded(self, crate, _flags, start=None):
-        """`seeded` of `rt`, without a check."""
-        room = tempfile.mkdtemp(prefix=f"rt-edits-{os.getpid()}-")
-        self.rt.SEEDS.append(room)
-        if not start:
-            os.mkdir(f"{room}/seed")
-            return room
-        try:
-            self.rt.linked(start, f"{room}/seed")
-        except (OSError, shutil.Error):
-            return None
-        self.has_begun.add(crate.folder)
-        return room
+    def try_edits(self, crate, paths):
+        """Tries wrong bodies, less those that were refused before over the same files."""
+        over = self.over(crate)
+        text = lambda it: over + pathlib.Path(it).read_text()
+        left = [it for it in paths if not self.is_kept(f"edit {it}", text(it))]
+        self.passed += len(paths) - len(left)
+        with self.log(f"must-fail-{crate.name}") as log:
+            for path, is_refused, said in refused(self.rt, crate, left):
+                print(said, file=log, flush=True)
+                if is_refused:
+                    self.keep(f"edit {path}", [text(path)])
+                    self.passed += 1
+                else:
+                    print(said, flush=True)
+                    self.failed.append(f"{crate.name}/{os.path.basename(path)}")
+        return True
 
-    def looked_at(self, crate, texts, flags, kept):
-        """`checked` of `rt`: of a crate as it stands, over what was kept, the turned functions alone, or
-        none where it began with nothing."""
-        if texts or not kept:
-            return self.checked(crate, texts, flags, kept)
-        if crate.folder not in self.has_begun:
-            return subprocess.CompletedProcess([], 0, "", "")
-        groups = set(self.groups[crate.folder].values())
-        turned = {it for group in groups for each in group.edits for it in each.asked()}
-        return self.checked(crate, texts, [*flags, *only(turned)], kept)
+    def tell(self, task):
+        """Counts a crate that is done, and prints its line. Wrong bodies are counted one by one."""
+        kind, name = task.key.split(" ", 1)
+        if kind != "edits":
+            self.passed += task.is_well
+            self.failed += [] if task.is_well else [name if kind == "proof" else task.key]
+        how = "done" if task.is_well else f"FAILED: {self.to}/logs/{kind}-{name}.log"
+        took = f", {task.seconds:.0f} s" if task.seconds is not None else ""
+        print(f"{task.key}: {how}{took}", flush=True)
 
-    def added(self, tasks, crate, edits, *given, **named):
-        """`add_edits` of `rt`, in which the tasks of a group wait for its first, and that for the first
-        of all."""
-        results = self.add_edits(tasks, crate, edits, *given, **named)
-        firsts, of_all = {}, None
-        for number, path in enumerate(edits):
-            key, group = (crate.name, "edits", number), self.groups[crate.folder].get(path)
-            first = firsts.setdefault(group, key) if group else key
-            of_all = of_all or key
-            before = first if first != key else of_all if group else key
-            if before != key:
-                waits, *rest = tasks[key]
-                tasks[key] = ([*waits, before], *rest)
-        return results
-
-    def tried(self, crate, edit, flags, kept=None):
-        """`must_fail` of `rt`: with kept work a group is tried in one check, and without alone."""
-        group = self.groups.get(crate.folder, {}).get(edit) if kept else None
-        text = group and group.refusal(self.rt, crate, edit, flags, os.path.dirname(kept))
-        return (self.rt.REFUSED, text) if text else self.must_fail(crate, edit, flags, kept)
+    def do(self, tasks):
+        """Does all of it, and says how many passed."""
+        begun = time.time()
+        for task in lanes.done(tasks, lanes.lanes()):
+            self.tell(task)
+        used = resource.getrusage(resource.RUSAGE_CHILDREN)
+        print(f"{(time.time() - begun) / 60:.0f} minutes by the clock, "
+              f"{(used.ru_utime + used.ru_stime) / 60:.0f} of the processor")
+        if self.failed:
+            print(f"FAILED: {' '.join(self.failed)}")
+        print(f"{self.passed} passed, {len(self.failed)} failed", flush=True)
+        return 1 if self.failed else 0
 
 
-# What is called here, and the names of what it takes.
-CALLED = {"unread": ["line", "changed"], "must_fail": ["crate", "edit", "flags", "kept"],
-          "checked": ["crate", "texts", "flags", "kept"], "linked": ["folder", "to"],
-          "seeded": ["crate", "flags", "start"], "edits_of": ["crate"],
-          "add_edits": ["tasks", "crate", "edits"], "read_edit": ["edit", "folder"]}
+def proofs(gate):
+    """A task for each crate: its proof."""
+    return [lanes.Task(f"proof {it.name}", [f"proof {dep.name}" for dep in it.deps], it.count(rb"\n"),
+                       lambda jobs, it=it: gate.prove(it, jobs)) for it in gate.crates]
 
 
-def has_parts(rt):
-    """Whether the toolchain has these."""
-    return hasattr(rt.rtlib, "STALE") and hasattr(rt, "SEEDS") and all(
-        hasattr(rt, name) and [*inspect.signature(getattr(rt, name)).parameters][: len(takes)] == takes
-        for name, takes in CALLED.items())
+def edits(gate, names, chosen):
+    """A task for each of these crates that has wrong bodies: those that are chosen of it."""
+    found = []
+    for it in filter(lambda it: it.name in names, gate.crates):
+        good, bad = gate.rt.edits_of(it)
+        gate.failed += [os.path.relpath(path, gate.to) for path in bad]
+        paths = chosen(it, good)
+        if paths:
+            found.append(lanes.Task(f"edits {it.name}", [f"proof {it.name}"], len(paths),
+                                    lambda jobs, it=it, paths=paths: gate.try_edits(it, paths)))
+    return found
+
+
+def programs(gate):
+    """A task for each program: it runs, and what it writes is compared."""
+    return [lanes.Task(f"run {it.name}", [f"proof {it.name}"], 0, lambda jobs, it=it: gate.run(it, False))
+            for it in gate.crates if it.is_program]
+
+
+def tests(gate, names):
+    """Two tasks for each crate of tests: their proofs, and the run."""
+    found = []
+    for it in filter(lambda it: it.name in names, gate.crates):
+        waits = [f"proof {it.name}"]
+        prove, run = (lambda jobs, it=it: gate.prove(it, jobs, True)), (lambda jobs, it=it: gate.run(it, True))
+        found += [lanes.Task(f"tests {it.name}", waits, it.count(rb"\n"), prove),
+                  lanes.Task(f"run {it.name}", [f"tests {it.name}"], 0, run)]
+    return found
+
+
+def leave_program(gate):
+    """Leaves the program where `make run` leaves it, and notes what it was built of."""
+    for it in filter(lambda it: it.is_program, gate.crates):
+        build = prove.Build(gate.rt, it.name)
+        build.program.parent.mkdir(exist_ok=True)
+        shutil.copy2(f"{it.folder}/out/{it.name}", build.program)
+        build.note()
 
 
 def main(words):
-    rt = toolchain()
-    os.environ.setdefault("RT_JOBS", str(lanes.lanes() or ""))
-    if has_parts(rt):
-        Together(rt, are_all=words[:1] == ["must-fail"])
-    return rt.main(words or ["ci"])
+    rt = toolchain.rt()
+    rt.rtlib.stop = rt.stop
+    mode, *asked = words
+    os.chdir(TOP)
+    found = {it.name: it for it in rt.rtlib.crates_below(str(TOP))}
+    of_tests = [name for name, it in found.items() if it.has_tests()]
+    product = [name for name in found if not name.endswith("_tests")]
+    rt.rtlib.stop_on_unread(str(TOP / "crates"), [*found.values()])
+    to = room()
+    copy_crates(found, to)
+    if mode == "tests":
+        gate = Gate(rt, asked or of_tests, to)
+        return gate.do([*proofs(gate), *tests(gate, asked or of_tests)])
+    if mode == "must-fail":
+        gate = Gate(rt, asked or product, to)
+        return gate.do([*proofs(gate), *edits(gate, asked or product, lambda crate, good: good)])
+    gate = Gate(rt, product, to)
+    differ = changed.crates(os.environ["BASE"], found) if os.environ.get("BASE") else ()
+    chosen = lambda it, good: (of_the_gate if it.name in differ else one_of_each_file)(it, good)
+    status = gate.do([*proofs(gate), *edits(gate, product, chosen), *programs(gate)])
+    if not status:
+        leave_program(gate)
+    return status
 
 
 if __name__ == "__main__":

@@ -1,16 +1,18 @@
-"""Prints how many checks of the gate may run side by side, for `RT_JOBS`: one a processor where
-memory holds as many, else nothing.
+"""Tasks side by side: as many as processors and memory allow, each once those it waits for are done.
 
-`rt ci` goes by an estimate of each check's memory, made of lines. For crates over SQLite it is two
-to four times what they take, so that processors wait for memory that is free. Most checks here take
-1 to 4 GB, and tests over SQLite up to 7; four at once took 18 GB at most. Where there are 5 GB for each
-processor the estimate is not needed; where there are not, `rt ci` goes by it."""
+    python3 build/lanes.py    prints how many checks may run side by side
+
+Most checks take 1 to 4 GB, and tests over SQLite up to 7; four at once took 18 GB at most."""
 
 import os
 import pathlib
+import queue
 import re
+import threading
+import time
 
-BYTES_EACH = 5_000_000_000
+BYTES_EACH = 4_000_000_000
+MOST_JOBS = 4
 LIMIT, USED = (pathlib.Path("/sys/fs/cgroup") / f"memory.{it}" for it in ("max", "current"))
 
 
@@ -24,10 +26,67 @@ def free():
 
 
 def lanes():
-    """One a processor, or None."""
-    processors = len(os.sched_getaffinity(0))
-    return processors if processors * BYTES_EACH <= free() else None
+    """How many checks may run side by side: as many as `make -jN` says, else one for each processor,
+    and no more than memory holds."""
+    asked = re.search(r"(?:^| )-j(\d+)", os.environ.get("MAKEFLAGS", ""))
+    wanted = int(asked[1]) if asked else len(os.sched_getaffinity(0))
+    return max(1, min(wanted, free() // BYTES_EACH))
+
+
+class Task:
+    """A call, which gets a number of jobs and returns whether all is well; the keys of the tasks that it
+    waits for; and its weight, by which the longest chain of tasks comes first. `seconds` is what it took,
+    once it is done."""
+
+    def __init__(self, key, waits, weight, call):
+        self.key, self.waits, self.weight, self.call = key, waits, weight, call
+        self.is_well = self.seconds = None
+
+    def run(self, jobs, results):
+        begun = time.time()
+        try:
+            self.is_well = self.call(jobs)
+        except (SystemExit, OSError) as error:
+            print(f"{self.key}: {error}", flush=True)
+            self.is_well = False
+        self.seconds = time.time() - begun
+        results.put(self)
+
+
+def chains(tasks):
+    """The weight of the longest chain that begins with each task."""
+    behind = {it.key: it.weight for it in tasks}
+    for it in reversed(tasks):
+        for key in it.waits:
+            behind[key] = max(behind[key], behind[it.key] + next(t.weight for t in tasks if t.key == key))
+    return behind
+
+
+def done(tasks, most):
+    """Runs tasks, of which each comes after those that it waits for, and gives each once it is done. What
+    waits for one that failed is given without a run."""
+    behind, results, left = chains(tasks), queue.Queue(), list(tasks)
+    ended, running = {}, {}
+    while left or running:
+        for it in [it for it in left if any(ended.get(key) is False for key in it.waits)]:
+            left.remove(it)
+            ended[it.key] = it.is_well = False
+            yield it
+        ready = [it for it in left if all(key in ended for key in it.waits)]
+        ready.sort(key=lambda it: -behind[it.key])
+        for place, it in enumerate(ready):
+            idle = most - sum(running.values())
+            if idle < 1:
+                break
+            running[it.key] = max(1, min(MOST_JOBS, idle // (len(ready) - place)))
+            left.remove(it)
+            threading.Thread(target=it.run, args=(running[it.key], results), daemon=True).start()
+        if running:
+            it = results.get()
+            del running[it.key]
+            ended[it.key] = it.is_well
+            yield it
 
 
 if __name__ == "__main__":
-    print(lanes() or "")
+    print(lanes())

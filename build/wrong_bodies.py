@@ -207,11 +207,28 @@ def groups(crate, edits):
     return found
 
 
-def of_the_gate(group):
-    """Those of a group that stand in functions that another crate may call, and of each file that has none
-    of these the first."""
+def of_the_gate(crate, paths):
+    """Of these edits one of each function that another crate may call, the first by name, one of each file
+    that has none of these, and those that change more than functions' bodies."""
+    grouped = groups(crate, paths)
+    group = grouped[0][0] if grouped else []
     found = [it for it in group if it.is_open()]
     for it in group:
         if not any(it.files() & other.files() for other in found):
             found.append(it)
+    alone = [path for path in paths if WrongBody(crate, path).stands_alone()]
+    return [it.path for it in found] + alone
+
+
+def one_of_each_file(crate, paths):
+    """Of these edits one of each file that has any: the first by name of a function that another crate may
+    call, where there is one."""
+    bodies = [WrongBody(crate, path) for path in paths]
+    bodies.sort(key=lambda it: (it.stands_alone(), it.stands_alone() or not it.is_open()))
+    found, covered = [], set()
+    for it in bodies:
+        files = {file for file, *_ in it.pairs}
+        if not files <= covered:
+            found.append(it.path)
+            covered |= files
     return found
