@@ -1,5 +1,5 @@
 -- The number and the name that a reply gives to each result of a transfer event.
-use Rattle.std.specs.Prelude.{ℕ, List, codes}
+use Rattle.std.specs.Prelude.{ℕ, List, [], ◌∷◌, codes, get_or}
 use Rattle.records.specs.declared.transfer_result.TransferResult.{TransferResult}
 use Rattle.records.specs.declared.transfer_result.TransferResult.TheVariants as answer
 
@@ -62,61 +62,72 @@ number_of answer.ExceedsCredits = 55
 number_of answer.ExceedsDebits = 56
 number_of answer.IdAlreadyFailed = 60
 
--- the name, in ASCII
+-- the names by number, in ASCII; no result has the number 41, 54, 57, 58 or 59
+abbrev pub names : List (List ℕ)
+names =
+    codes "ok" ∷
+    codes "linked_event_chain_open" ∷
+    codes "linked_event_failed" ∷
+    codes "timestamp_must_be_zero" ∷
+    codes "reserved_flag" ∷
+    codes "id_must_not_be_zero" ∷
+    codes "id_must_not_be_int_max" ∷
+    codes "exists_with_different_flags" ∷
+    codes "exists_with_different_pending_id" ∷
+    codes "exists_with_different_timeout" ∷
+    codes "exists_with_different_debit_account_id" ∷
+    codes "exists_with_different_credit_account_id" ∷
+    codes "exists_with_different_amount" ∷
+    codes "exists_with_different_user_data_128" ∷
+    codes "exists_with_different_user_data_64" ∷
+    codes "exists_with_different_user_data_32" ∷
+    codes "exists_with_different_ledger" ∷
+    codes "exists_with_different_code" ∷
+    codes "exists" ∷
+    codes "flags_are_mutually_exclusive" ∷
+    codes "pending_id_must_not_be_zero" ∷
+    codes "pending_id_must_not_be_int_max" ∷
+    codes "pending_id_must_be_different" ∷
+    codes "timeout_reserved_for_pending_transfer" ∷
+    codes "pending_transfer_not_found" ∷
+    codes "pending_transfer_not_pending" ∷
+    codes "pending_transfer_has_different_debit_account_id" ∷
+    codes "pending_transfer_has_different_credit_account_id" ∷
+    codes "pending_transfer_has_different_ledger" ∷
+    codes "pending_transfer_has_different_code" ∷
+    codes "exceeds_pending_transfer_amount" ∷
+    codes "pending_transfer_has_different_amount" ∷
+    codes "pending_transfer_already_posted" ∷
+    codes "pending_transfer_already_voided" ∷
+    codes "pending_transfer_expired" ∷
+    codes "debit_account_id_must_not_be_zero" ∷
+    codes "debit_account_id_must_not_be_int_max" ∷
+    codes "credit_account_id_must_not_be_zero" ∷
+    codes "credit_account_id_must_not_be_int_max" ∷
+    codes "accounts_must_be_different" ∷
+    codes "pending_id_must_be_zero" ∷
+    [] ∷
+    codes "ledger_must_not_be_zero" ∷
+    codes "code_must_not_be_zero" ∷
+    codes "debit_account_not_found" ∷
+    codes "credit_account_not_found" ∷
+    codes "accounts_must_have_the_same_ledger" ∷
+    codes "transfer_must_have_the_same_ledger_as_accounts" ∷
+    codes "overflows_debits_pending" ∷
+    codes "overflows_credits_pending" ∷
+    codes "overflows_debits_posted" ∷
+    codes "overflows_credits_posted" ∷
+    codes "overflows_debits" ∷
+    codes "overflows_credits" ∷
+    [] ∷
+    codes "exceeds_credits" ∷
+    codes "exceeds_debits" ∷
+    [] ∷
+    [] ∷
+    [] ∷
+    codes "id_already_failed" ∷
+    []
+
+-- the name
 abbrev pub name_of : TransferResult → List ℕ
-name_of answer.Accepted = codes "ok"
-name_of answer.LinkedEventChainOpen = codes "linked_event_chain_open"
-name_of answer.LinkedEventFailed = codes "linked_event_failed"
-name_of answer.TimestampMustBeZero = codes "timestamp_must_be_zero"
-name_of answer.ReservedFlag = codes "reserved_flag"
-name_of answer.IdMustNotBeZero = codes "id_must_not_be_zero"
-name_of answer.IdMustNotBeIntMax = codes "id_must_not_be_int_max"
-name_of answer.ExistsWithDifferentFlags = codes "exists_with_different_flags"
-name_of answer.ExistsWithDifferentPendingId = codes "exists_with_different_pending_id"
-name_of answer.ExistsWithDifferentTimeout = codes "exists_with_different_timeout"
-name_of answer.ExistsWithDifferentDebitAccountId = codes "exists_with_different_debit_account_id"
-name_of answer.ExistsWithDifferentCreditAccountId = codes "exists_with_different_credit_account_id"
-name_of answer.ExistsWithDifferentAmount = codes "exists_with_different_amount"
-name_of answer.ExistsWithDifferentUserData128 = codes "exists_with_different_user_data_128"
-name_of answer.ExistsWithDifferentUserData64 = codes "exists_with_different_user_data_64"
-name_of answer.ExistsWithDifferentUserData32 = codes "exists_with_different_user_data_32"
-name_of answer.ExistsWithDifferentLedger = codes "exists_with_different_ledger"
-name_of answer.ExistsWithDifferentCode = codes "exists_with_different_code"
-name_of answer.Exists = codes "exists"
-name_of answer.FlagsAreMutuallyExclusive = codes "flags_are_mutually_exclusive"
-name_of answer.PendingIdMustNotBeZero = codes "pending_id_must_not_be_zero"
-name_of answer.PendingIdMustNotBeIntMax = codes "pending_id_must_not_be_int_max"
-name_of answer.PendingIdMustBeDifferent = codes "pending_id_must_be_different"
-name_of answer.TimeoutReservedForPendingTransfer = codes "timeout_reserved_for_pending_transfer"
-name_of answer.PendingTransferNotFound = codes "pending_transfer_not_found"
-name_of answer.PendingTransferNotPending = codes "pending_transfer_not_pending"
-name_of answer.PendingTransferHasDifferentDebitAccountId = codes "pending_transfer_has_different_debit_account_id"
-name_of answer.PendingTransferHasDifferentCreditAccountId = codes "pending_transfer_has_different_credit_account_id"
-name_of answer.PendingTransferHasDifferentLedger = codes "pending_transfer_has_different_ledger"
-name_of answer.PendingTransferHasDifferentCode = codes "pending_transfer_has_different_code"
-name_of answer.ExceedsPendingTransferAmount = codes "exceeds_pending_transfer_amount"
-name_of answer.PendingTransferHasDifferentAmount = codes "pending_transfer_has_different_amount"
-name_of answer.PendingTransferAlreadyPosted = codes "pending_transfer_already_posted"
-name_of answer.PendingTransferAlreadyVoided = codes "pending_transfer_already_voided"
-name_of answer.PendingTransferExpired = codes "pending_transfer_expired"
-name_of answer.DebitAccountIdMustNotBeZero = codes "debit_account_id_must_not_be_zero"
-name_of answer.DebitAccountIdMustNotBeIntMax = codes "debit_account_id_must_not_be_int_max"
-name_of answer.CreditAccountIdMustNotBeZero = codes "credit_account_id_must_not_be_zero"
-name_of answer.CreditAccountIdMustNotBeIntMax = codes "credit_account_id_must_not_be_int_max"
-name_of answer.AccountsMustBeDifferent = codes "accounts_must_be_different"
-name_of answer.PendingIdMustBeZero = codes "pending_id_must_be_zero"
-name_of answer.LedgerMustNotBeZero = codes "ledger_must_not_be_zero"
-name_of answer.CodeMustNotBeZero = codes "code_must_not_be_zero"
-name_of answer.DebitAccountNotFound = codes "debit_account_not_found"
-name_of answer.CreditAccountNotFound = codes "credit_account_not_found"
-name_of answer.AccountsMustHaveTheSameLedger = codes "accounts_must_have_the_same_ledger"
-name_of answer.TransferMustHaveTheSameLedgerAsAccounts = codes "transfer_must_have_the_same_ledger_as_accounts"
-name_of answer.OverflowsDebitsPending = codes "overflows_debits_pending"
-name_of answer.OverflowsCreditsPending = codes "overflows_credits_pending"
-name_of answer.OverflowsDebitsPosted = codes "overflows_debits_posted"
-name_of answer.OverflowsCreditsPosted = codes "overflows_credits_posted"
-name_of answer.OverflowsDebits = codes "overflows_debits"
-name_of answer.OverflowsCredits = codes "overflows_credits"
-name_of answer.ExceedsCredits = codes "exceeds_credits"
-name_of answer.ExceedsDebits = codes "exceeds_debits"
-name_of answer.IdAlreadyFailed = codes "id_already_failed"
+name_of answered = get_or names (number_of answered) []

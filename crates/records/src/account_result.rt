@@ -1,9 +1,37 @@
-ghost use Rattle.std.specs.Prelude.{◌≡◌};
+ghost use Rattle.std.specs.Prelude.{◌≡◌, Some};
 ghost use Rattle.records.specs.AccountResultNames.{number_of, name_of};
+
+use crate::text_at::text_at;
+use std::fmt;
+
+// The names by number.
+static NAMES: [&str; 21] = [
+    "ok",
+    "linked_event_chain_open",
+    "linked_event_failed",
+    "timestamp_must_be_zero",
+    "reserved_flag",
+    "id_must_not_be_zero",
+    "id_must_not_be_int_max",
+    "exists_with_different_flags",
+    "exists_with_different_user_data_128",
+    "exists_with_different_user_data_64",
+    "exists_with_different_user_data_32",
+    "exists_with_different_ledger",
+    "exists_with_different_code",
+    "exists",
+    "flags_are_mutually_exclusive",
+    "debits_pending_must_be_zero",
+    "debits_posted_must_be_zero",
+    "credits_pending_must_be_zero",
+    "credits_posted_must_be_zero",
+    "ledger_must_not_be_zero",
+    "code_must_not_be_zero",
+];
 
 /// What became of an account event, in the order in which the conditions are tested. The
 /// conditions stand in `docs/RESULTS.md`; names and numbers are those of replies.
-#[derive(Clone, Copy, Debug, PartialEq, Eq)]
+#[derive(Clone, Copy, PartialEq, Eq)]
 pub enum AccountResult {
     Accepted = 0,
     LinkedEventChainOpen = 1,
@@ -40,28 +68,14 @@ impl AccountResult {
     pub fn name(self) -> &'static str
         ensures { result.now ≡ name_of self }
     {
-        match self {
-            AccountResult::Accepted => "ok",
-            AccountResult::LinkedEventChainOpen => "linked_event_chain_open",
-            AccountResult::LinkedEventFailed => "linked_event_failed",
-            AccountResult::TimestampMustBeZero => "timestamp_must_be_zero",
-            AccountResult::ReservedFlag => "reserved_flag",
-            AccountResult::IdMustNotBeZero => "id_must_not_be_zero",
-            AccountResult::IdMustNotBeIntMax => "id_must_not_be_int_max",
-            AccountResult::ExistsWithDifferentFlags => "exists_with_different_flags",
-            AccountResult::ExistsWithDifferentUserData128 => "exists_with_different_user_data_128",
-            AccountResult::ExistsWithDifferentUserData64 => "exists_with_different_user_data_64",
-            AccountResult::ExistsWithDifferentUserData32 => "exists_with_different_user_data_32",
-            AccountResult::ExistsWithDifferentLedger => "exists_with_different_ledger",
-            AccountResult::ExistsWithDifferentCode => "exists_with_different_code",
-            AccountResult::Exists => "exists",
-            AccountResult::FlagsAreMutuallyExclusive => "flags_are_mutually_exclusive",
-            AccountResult::DebitsPendingMustBeZero => "debits_pending_must_be_zero",
-            AccountResult::DebitsPostedMustBeZero => "debits_posted_must_be_zero",
-            AccountResult::CreditsPendingMustBeZero => "credits_pending_must_be_zero",
-            AccountResult::CreditsPostedMustBeZero => "credits_posted_must_be_zero",
-            AccountResult::LedgerMustNotBeZero => "ledger_must_not_be_zero",
-            AccountResult::CodeMustNotBeZero => "code_must_not_be_zero",
-        }
+        text_at(&NAMES, self.number())
+    }
+}
+
+impl fmt::Debug for AccountResult {
+    ghost debug_output = { λ answered. Some (name_of answered) };
+
+    fn fmt<W: fmt::Write>(&self, f: &mut fmt::Formatter<W>) -> fmt::Result {
+        f.write_str(self.name())
     }
 }

@@ -20,6 +20,7 @@ mod side;
 mod source;
 mod statement_row;
 mod streamed;
+mod text_at;
 mod transfer;
 mod transfer_checks;
 mod transfer_flags;

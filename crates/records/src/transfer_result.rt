@@ -1,10 +1,78 @@
-ghost use Rattle.std.specs.Prelude.{◌≡◌};
+ghost use Rattle.std.specs.Prelude.{◌≡◌, Some};
 ghost use Rattle.records.specs.TransferResultNames.{number_of, name_of};
 ghost use Rattle.records.specs.TransferVerdict.{fails_for_good};
 
+use crate::text_at::text_at;
+use std::fmt;
+
+// The names by number; no result has the number 41, 54, 57, 58 or 59.
+static NAMES: [&str; 61] = [
+    "ok",
+    "linked_event_chain_open",
+    "linked_event_failed",
+    "timestamp_must_be_zero",
+    "reserved_flag",
+    "id_must_not_be_zero",
+    "id_must_not_be_int_max",
+    "exists_with_different_flags",
+    "exists_with_different_pending_id",
+    "exists_with_different_timeout",
+    "exists_with_different_debit_account_id",
+    "exists_with_different_credit_account_id",
+    "exists_with_different_amount",
+    "exists_with_different_user_data_128",
+    "exists_with_different_user_data_64",
+    "exists_with_different_user_data_32",
+    "exists_with_different_ledger",
+    "exists_with_different_code",
+    "exists",
+    "flags_are_mutually_exclusive",
+    "pending_id_must_not_be_zero",
+    "pending_id_must_not_be_int_max",
+    "pending_id_must_be_different",
+    "timeout_reserved_for_pending_transfer",
+    "pending_transfer_not_found",
+    "pending_transfer_not_pending",
+    "pending_transfer_has_different_debit_account_id",
+    "pending_transfer_has_different_credit_account_id",
+    "pending_transfer_has_different_ledger",
+    "pending_transfer_has_different_code",
+    "exceeds_pending_transfer_amount",
+    "pending_transfer_has_different_amount",
+    "pending_transfer_already_posted",
+    "pending_transfer_already_voided",
+    "pending_transfer_expired",
+    "debit_account_id_must_not_be_zero",
+    "debit_account_id_must_not_be_int_max",
+    "credit_account_id_must_not_be_zero",
+    "credit_account_id_must_not_be_int_max",
+    "accounts_must_be_different",
+    "pending_id_must_be_zero",
+    "",
+    "ledger_must_not_be_zero",
+    "code_must_not_be_zero",
+    "debit_account_not_found",
+    "credit_account_not_found",
+    "accounts_must_have_the_same_ledger",
+    "transfer_must_have_the_same_ledger_as_accounts",
+    "overflows_debits_pending",
+    "overflows_credits_pending",
+    "overflows_debits_posted",
+    "overflows_credits_posted",
+    "overflows_debits",
+    "overflows_credits",
+    "",
+    "exceeds_credits",
+    "exceeds_debits",
+    "",
+    "",
+    "",
+    "id_already_failed",
+];
+
 /// What became of a transfer event, by number. The conditions and their order stand in
 /// `docs/RESULTS.md`; names and numbers are those of replies.
-#[derive(Clone, Copy, Debug, PartialEq, Eq)]
+#[derive(Clone, Copy, PartialEq, Eq)]
 pub enum TransferResult {
     Accepted = 0,
     LinkedEventChainOpen = 1,
@@ -91,73 +159,14 @@ impl TransferResult {
     pub fn name(self) -> &'static str
         ensures { result.now ≡ name_of self }
     {
-        match self {
-            TransferResult::Accepted => "ok",
-            TransferResult::LinkedEventChainOpen => "linked_event_chain_open",
-            TransferResult::LinkedEventFailed => "linked_event_failed",
-            TransferResult::TimestampMustBeZero => "timestamp_must_be_zero",
-            TransferResult::ReservedFlag => "reserved_flag",
-            TransferResult::IdMustNotBeZero => "id_must_not_be_zero",
-            TransferResult::IdMustNotBeIntMax => "id_must_not_be_int_max",
-            TransferResult::ExistsWithDifferentFlags => "exists_with_different_flags",
-            TransferResult::ExistsWithDifferentPendingId => "exists_with_different_pending_id",
-            TransferResult::ExistsWithDifferentTimeout => "exists_with_different_timeout",
-            TransferResult::ExistsWithDifferentDebitAccountId =>
-                "exists_with_different_debit_account_id",
-            TransferResult::ExistsWithDifferentCreditAccountId =>
-                "exists_with_different_credit_account_id",
-            TransferResult::ExistsWithDifferentAmount => "exists_with_different_amount",
-            TransferResult::ExistsWithDifferentUserData128 => "exists_with_different_user_data_128",
-            TransferResult::ExistsWithDifferentUserData64 => "exists_with_different_user_data_64",
-            TransferResult::ExistsWithDifferentUserData32 => "exists_with_different_user_data_32",
-            TransferResult::ExistsWithDifferentLedger => "exists_with_different_ledger",
-            TransferResult::ExistsWithDifferentCode => "exists_with_different_code",
-            TransferResult::Exists => "exists",
-            TransferResult::FlagsAreMutuallyExclusive => "flags_are_mutually_exclusive",
-            TransferResult::PendingIdMustNotBeZero => "pending_id_must_not_be_zero",
-            TransferResult::PendingIdMustNotBeIntMax => "pending_id_must_not_be_int_max",
-            TransferResult::PendingIdMustBeDifferent => "pending_id_must_be_different",
-            TransferResult::TimeoutReservedForPendingTransfer =>
-                "timeout_reserved_for_pending_transfer",
-            TransferResult::PendingTransferNotFound => "pending_transfer_not_found",
-            TransferResult::PendingTransferNotPending => "pending_transfer_not_pending",
-            TransferResult::PendingTransferHasDifferentDebitAccountId =>
-                "pending_transfer_has_different_debit_account_id",
-            TransferResult::PendingTransferHasDifferentCreditAccountId =>
-                "pending_transfer_has_different_credit_account_id",
-            TransferResult::PendingTransferHasDifferentLedger =>
-                "pending_transfer_has_different_ledger",
-            TransferResult::PendingTransferHasDifferentCode =>
-                "pending_transfer_has_different_code",
-            TransferResult::ExceedsPendingTransferAmount => "exceeds_pending_transfer_amount",
-            TransferResult::PendingTransferHasDifferentAmount =>
-                "pending_transfer_has_different_amount",
-            TransferResult::PendingTransferAlreadyPosted => "pending_transfer_already_posted",
-            TransferResult::PendingTransferAlreadyVoided => "pending_transfer_already_voided",
-            TransferResult::PendingTransferExpired => "pending_transfer_expired",
-            TransferResult::DebitAccountIdMustNotBeZero => "debit_account_id_must_not_be_zero",
-            TransferResult::DebitAccountIdMustNotBeIntMax => "debit_account_id_must_not_be_int_max",
-            TransferResult::CreditAccountIdMustNotBeZero => "credit_account_id_must_not_be_zero",
-            TransferResult::CreditAccountIdMustNotBeIntMax =>
-                "credit_account_id_must_not_be_int_max",
-            TransferResult::AccountsMustBeDifferent => "accounts_must_be_different",
-            TransferResult::PendingIdMustBeZero => "pending_id_must_be_zero",
-            TransferResult::LedgerMustNotBeZero => "ledger_must_not_be_zero",
-            TransferResult::CodeMustNotBeZero => "code_must_not_be_zero",
-            TransferResult::DebitAccountNotFound => "debit_account_not_found",
-            TransferResult::CreditAccountNotFound => "credit_account_not_found",
-            TransferResult::AccountsMustHaveTheSameLedger => "accounts_must_have_the_same_ledger",
-            TransferResult::TransferMustHaveTheSameLedgerAsAccounts =>
-                "transfer_must_have_the_same_ledger_as_accounts",
-            TransferResult::OverflowsDebitsPending => "overflows_debits_pending",
-            TransferResult::OverflowsCreditsPending => "overflows_credits_pending",
-            TransferResult::OverflowsDebitsPosted => "overflows_debits_posted",
-            TransferResult::OverflowsCreditsPosted => "overflows_credits_posted",
-            TransferResult::OverflowsDebits => "overflows_debits",
-            TransferResult::OverflowsCredits => "overflows_credits",
-            TransferResult::ExceedsCredits => "exceeds_credits",
-            TransferResult::ExceedsDebits => "exceeds_debits",
-            TransferResult::IdAlreadyFailed => "id_already_failed",
-        }
+        text_at(&NAMES, self.number())
+    }
+}
+
+impl fmt::Debug for TransferResult {
+    ghost debug_output = { λ answered. Some (name_of answered) };
+
+    fn fmt<W: fmt::Write>(&self, f: &mut fmt::Formatter<W>) -> fmt::Result {
+        f.write_str(self.name())
     }
 }
