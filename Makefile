@@ -1,19 +1,29 @@
-# `make try` looks at ledgerd in minutes, with checks in place of proofs; `make run` proves and
-# builds it and plays the worked session on a new file; `make prove` is the gate, `make prove-tests`
-# proves the tests, and `make must-fail` tries every wrong body. `make session` plays it and compares it with the expected one; `make faults`
-# tries what may go wrong, and `make faults-long` all of it, and `make soak` for an hour, or
-# MINUTES=5, all of it at once; `make bench` measures; `make alloc` runs the tests on want of memory
-# with each allocation refused in turn; `make python` tests the client for Python, and `make console`
-# the page for the browser, in chromium; `make fleet`, as root, plays two machines on a replicated
-# volume. `make try` and `make run` take a free port, or PORT=8080; `make try STAY=1` leaves it served.
-.PHONY: run try ledgerd session prove prove-tests must-fail python console fleet faults faults-long soak bench alloc
+# The tests, the gate, and what else may be done with the program; README.md, 'What it needs'.
+#
+#   try      looks at ledgerd in minutes, with checks in place of proofs
+#   play     leaves that program served on a new file
+#   test     runs all tests so, or STEPS="session trials" alone; no proof
+#   run      proves and builds ledgerd, and plays the worked session on a new file
+#   prove    the gate: every crate of the product from nothing, and wrong bodies; BASE=REV tries more
+#   prove-tests, must-fail    the proofs of the tests, and every wrong body; of all crates or CRATES=
+#   session  plays the worked session and compares it with the expected one
+#   faults   tries what may go wrong; faults-long all of it; soak all at once, for MINUTES=60
+#   bench    measures; alloc runs the tests on want of memory with each allocation refused in turn
+#   python   tests the client for Python; console the page for the browser, in chromium
+#   fleet    as root, plays two machines on a replicated volume
+#
+# `try`, `play` and `run` take a free port, or PORT=8080.
+.PHONY: run try play ledgerd session test prove prove-tests must-fail python console fleet faults \
+    faults-long soak bench alloc
 
 LEDGERD = crates/ledgerd/out/ledgerd
+UNPROVED = out/checked/ledgerd-unproved
 PLAY = examples/session/play.sh $(LEDGERD) out/session $(PORT)
 export STAY
 
 # What a target calls. One that is lacking is told at once, before anything is built.
 try-calls = rt python3 curl
+play-calls = $(try-calls)
 run-calls = rt python3 curl sqlite3
 session-calls = $(run-calls)
 ledgerd-calls = rt python3
@@ -26,19 +36,30 @@ soak-calls = $(faults-calls)
 prove-calls = rt python3 git
 prove-tests-calls = $(prove-calls)
 must-fail-calls = $(prove-calls)
+test-calls = rt python3 curl sqlite3 cc
 lacks = $(if $(shell command -v $(1) 2>/dev/null),,$(1))
 refused = $(shell python3 examples/session/port.py '$(PORT)' >/dev/null 2>&1 || echo $(PORT))
 goals = $(or $(MAKECMDGOALS),run)
 $(foreach goal,$(goals),$(foreach it,$($(goal)-calls),$(if $(call lacks,$(it)),\
     $(error make $(goal) needs $(it): see "What it needs" in README.md))))
-$(if $(PORT),$(if $(filter try run session,$(goals)),$(if $(refused),\
+$(if $(PORT),$(if $(filter try play run session,$(goals)),$(if $(refused),\
     $(error port $(PORT) cannot be served: with no PORT= a free one is taken))))
 
 run: ledgerd
 	$(PLAY)
 
+# Where the toolchain keeps no program, `rt try` builds and runs one.
 try:
-	examples/session/try.sh out/try $(PORT)
+	@python3 build/checked.py ledgerd || echo 'make try: on with rt try'
+	@examples/session/try.sh $(UNPROVED) out/try $(PORT)
+
+play:
+	@python3 build/checked.py ledgerd
+	@examples/session/serve.sh $(UNPROVED) out/play $(PORT)
+
+# All tests, the session, the client for Python and a sample of the trials, without a proof.
+test:
+	@python3 build/test.py $(STEPS)
 
 # Crates are proved side by side, with as many jobs as `-jN` says, else as there are processors.
 ledgerd:

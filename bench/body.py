@@ -3,11 +3,10 @@
 import json
 import sys
 
-count, length = int(sys.argv[1]), int(sys.argv[2])
-events = []
-for place in range(count):
+
+def event(place, count, length):
     ends_chain = (place + 1) % length == 0 or place + 1 == count
-    events.append({
+    return {
         "id": str(100 + place),
         "debit_account_id": "1",
         "credit_account_id": "2",
@@ -15,5 +14,12 @@ for place in range(count):
         "ledger": 7,
         "code": 1,
         "flags": 0 if ends_chain else 1,
-    })
-print(json.dumps(events))
+    }
+
+
+def main():
+    count, length = int(sys.argv[1]), int(sys.argv[2])
+    print(json.dumps([event(place, count, length) for place in range(count)]))
+
+
+main()

@@ -29,6 +29,8 @@ def want(holds, text):
 class Connection:
     """One connection, whose replies are read strictly."""
 
+    SIZE = re.compile(rb"(0|[1-9a-f][0-9a-f]*)\r\n")
+
     def __init__(self, port, room=None):
         """With no more than so much room for what was not read, if that is told."""
         self.socket = socket.socket()
@@ -85,7 +87,7 @@ class Connection:
     def chunk(self):
         """The next chunk of a body (RFC 9112, 7.1). One of no bytes is the last."""
         size = self.up_to(b"\r\n")
-        want(re.fullmatch(rb"(0|[1-9a-f][0-9a-f]*)\r\n", size), f"a chunk's size is {size!r}")
+        want(self.SIZE.fullmatch(size), f"a chunk's size is {size!r}")
         chunk = self.next(int(size, 16))
         end = self.next(2)
         want(end == b"\r\n", f"behind a chunk of {len(chunk)} bytes is {end!r}")

@@ -2,6 +2,7 @@
 it is answered, and only then the next one."""
 
 import random
+import re
 import secrets
 import sys
 import threading
@@ -11,10 +12,11 @@ from machines import PATIENCE
 
 sys.path.insert(0, __file__.rsplit("/", 3)[0] + "/faults")
 
+from connection import Connection, Lost, want
 from drawn import Requests
 from fleet import PROXY
 from indexed import Indexed
-from service import Connection, Desk, Lost, want
+from service import Desk
 
 TWENTY, PAUSE = 20, 0.15
 # What a proxy answers itself where a machine has gone under a request: it may have been done.
@@ -22,7 +24,10 @@ BY_THE_PROXY = ("502", "504")
 
 
 class Through(Connection):
-    """A connection to the proxy, whose replies are noted."""
+    """A connection to the proxy, whose replies are noted. A proxy may write the sizes of chunks
+    anew, in capital letters."""
+
+    SIZE = re.compile(rb"(0|[1-9a-fA-F][0-9a-fA-F]*)\r\n")
 
     def __init__(self, told):
         super().__init__(PROXY)

@@ -1,18 +1,20 @@
 #!/bin/sh
 # Plays the requests of the worked session against ledgerd built with checks in place of proofs.
 #
-#     examples/session/try.sh FOLDER [PORT]
+#     examples/session/try.sh LEDGERD FOLDER [PORT]
 #
-# `rt try` builds the program and runs it on a copy of examples/ledger/ledger.db. What is shown and
-# what rt says go to FOLDER. With STAY=1 the service stays until it is interrupted.
+# LEDGERD is that program, which serves a copy of examples/ledger/ledger.db. Where there is no such
+# program, `rt try` builds one and runs it. What is shown and what is said go to FOLDER. With STAY=1
+# the service stays until it is interrupted.
 set -eu
 
 here=$(cd "$(dirname "$0")" && pwd)
 . "$here/requests.sh"
 . "$here/../ledger/keys.sh"
-folder=$1
+ledgerd=$(realpath -m "$1")
+folder=$2
 mkdir -p "$folder"
-port=$(python3 "$here/port.py" ${2:+"$2"})
+port=$(python3 "$here/port.py" ${3:+"$3"})
 stay=${STAY:-}
 if [ -n "$stay" ]; then
     requests=
@@ -32,32 +34,39 @@ end() {
 trap end EXIT
 trap 'exit 130' INT TERM HUP
 
-# Says where rt has told why, and ends.
+# Says where is told why, and ends.
 fail() {
-    echo "make try: $1; $folder/rt.log ends with:" >&2
-    tail -n 5 "$folder/rt.log" >&2
+    echo "make try: $1; $folder/try.log ends with:" >&2
+    tail -n 5 "$folder/try.log" >&2
     exit 1
 }
 
+# Serves the copy. What takes its place is in a session of its own, so that ctrl-C ends it once,
+# through this script.
+serve() {
+    set -- serve --db ledger.db --port "$port" ${requests:+--requests "$requests"}
+    if [ -x "$ledgerd" ]; then
+        cp "$here/../ledger/ledger.db" "$scratch"
+        cd "$scratch"
+        exec setsid "$ledgerd" "$@"
+    fi
+    cd "$here/../../crates/ledgerd"
+    exec setsid rt try --seconds "$seconds" --data "ledger.db=$here/../ledger/ledger.db" -- "$@"
+}
+
 cat <<'TEXT'
-ledgerd is built with checks in place of proofs, in some three minutes on four cores. It is the same
-text, for a look: it stops where an index, a sum or a memory access would go wrong, and nothing of
-it is proved here. It serves a copy of examples/ledger/ledger.db, of which nothing is kept.
+ledgerd is built with checks in place of proofs. It is the same text, for a look: it stops where an
+index, a sum or a memory access would go wrong, and nothing of it is proved here. It serves a copy of
+examples/ledger/ledger.db, of which nothing is kept.
 TEXT
 
-# Serves the ledger, in a session of its own so that ctrl-C ends it once, through this script; and
-# waits until a connection is accepted.
-begun=$(date +%s)
-(cd "$here/../../crates/ledgerd" && exec setsid rt try --seconds "$seconds" \
-    --data "ledger.db=$here/../ledger/ledger.db" \
-    -- serve --db ledger.db --port "$port" ${requests:+--requests "$requests"}) \
-    </dev/null >"$folder/rt.log" 2>&1 &
+serve </dev/null >"$folder/try.log" 2>&1 &
 tried=$!
 until listens; do
     kill -0 "$tried" 2>/dev/null || fail 'the program does not serve'
-    sleep 1
+    sleep 0.2
 done
-printf '\nBuilt in %s s, and served on 127.0.0.1:%s\n' "$(($(date +%s) - begun))" "$port"
+printf '\nServed on 127.0.0.1:%s\n' "$port"
 
 # `tail` may come first, so that the file is made here.
 : >"$folder/session.txt"
@@ -72,7 +81,6 @@ if [ -n "$stay" ]; then
     cat <<TEXT
 
 It stays on 127.0.0.1:$port until you press ctrl-C, for a day at most; nothing is left of it then.
-A reply takes as long as the checks do, which is many times what the proved program takes.
 north-desk's key is $north_key
 south-hall's key is $south_key
 
@@ -84,6 +92,6 @@ fi
 wait "$tried" || fail 'the service ended with a fault'
 tried=
 cat <<'TEXT'
-Next: `make try STAY=1` leaves it up, to be asked by your own curl. `make run` proves the program,
+Next: `make play` serves a new ledger, to be asked by your own curl. `make run` proves the program,
 builds it without the checks and plays the whole session on a file that stays (README.md).
 TEXT

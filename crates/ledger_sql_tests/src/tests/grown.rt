@@ -18,9 +18,9 @@ pub const GROWN: &[Scenario] = &[
     ("over many rows", &[OVER_MANY, BY_KEY, PAGES, SPANS]),
 ];
 
-const OVER_FEW: &[Act] = &[Does(BASE), AddMany(100), Does(COMMIT)];
+const OVER_FEW: &[Act] = &[Does(BASE), AddMany(30), Does(COMMIT)];
 
-const OVER_MANY: &[Act] = &[Does(BASE), AddMany(1000), Does(COMMIT)];
+const OVER_MANY: &[Act] = &[Does(BASE), AddMany(300), Does(COMMIT)];
 
 /// Each text by a whole key takes few steps, as does one for all rows of a tenant that has few. A
 /// scan is refused.
