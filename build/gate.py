@@ -25,9 +25,7 @@ import re
 import resource
 import secrets
 import shutil
-import subprocess
 import sys
-import tempfile
 import threading
 import time
 from concurrent.futures import ThreadPoolExecutor
@@ -41,13 +39,6 @@ from wrong_bodies import of_the_gate, one_of_each_file
 
 TOP = pathlib.Path(__file__).resolve().parent.parent
 FILES = "src", "specs", "proofs", "must-fail", "stdin", "stdout", "args", "status", "data"
-
-
-def room():
-    """The folder that the gate works in."""
-    asked = ["git", "-C", str(TOP), "rev-parse", "--absolute-git-dir"]
-    found = subprocess.run(asked, capture_output=True, text=True)
-    return pathlib.Path(found.stdout.strip() if not found.returncode else tempfile.mkdtemp(), "gate")
 
 
 def copy_crates(names, to):
@@ -244,7 +235,7 @@ def main(words):
     of_tests = [name for name, it in found.items() if it.has_tests()]
     product = [name for name in found if not name.endswith("_tests")]
     rt.rtlib.stop_on_unread(str(TOP / "crates"), [*found.values()])
-    to = room()
+    to = toolchain.room("gate")
     copy_crates(found, to)
     if mode == "tests":
         gate = Gate(rt, asked or of_tests, to)
