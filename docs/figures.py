@@ -102,7 +102,7 @@ def picture(tall, title, parts):
 
 
 def broken(words, most):
-    """The words in lines of at most so many letters."""
+    """The words in lines of at most this many letters."""
     lines = [""]
     for word in words:
         longer = f"{lines[-1]} {word}".strip()
