@@ -1,5 +1,6 @@
-"""The requests of docs/RECIPES.md and their replies, which stand there in short. They are asked of
-the plain ledger of `model.py`, and as they stand of the program."""
+"""The requests of docs/RECIPES.md, whose replies the page shows in a short form.
+
+They are sent to the plain ledger of `model.py`, and to the program."""
 
 import json
 import re
@@ -43,7 +44,7 @@ def lines_of(text):
     return "\n".join(line[2:] for line in text.splitlines())
 
 
-def read(asked, fields=()):
+def numbered(asked, fields=()):
     """An object of a body, with numbers in place of strings, and these fields in any case."""
     return {**dict.fromkeys(fields, 0),
             **{name: int(value) if name in STRINGS else value for name, value in asked.items()}}
@@ -65,32 +66,66 @@ def sums_of(record):
     return ", ".join(f"{name} {record[name]}" for name in BALANCES if int(record[name]))
 
 
-def judged(ledger, path, body, moment):
-    """What the plain ledger answers a request at a moment."""
-    asked = json.loads(body)
-    if path in BATCHES:
-        events = [read(each, FIELDS[path]) for each in asked]
-        clock = max(moment, ledger.clock) + len(events)
-        told = ledger.batch(events, clock, path == "/transfers")
-        return {"results": [{"result": RESULTS[path][number]} for number, _ in told]}
-    return ANSWERS[path](ledger, asked)
+class Plain:
+    """A new tenant's plain ledger, at a moment."""
+
+    def __init__(self):
+        self.ledger, self.moment = Ledger(), 0
+
+    def wait(self, seconds):
+        self.moment = self.ledger.clock + seconds * SECOND
+
+    def ask(self, path, body):
+        asked = json.loads(body)
+        if path not in BATCHES:
+            return ANSWERS[path](self.ledger, asked)
+        events = [numbered(each, FIELDS[path]) for each in asked]
+        clock = max(self.moment, self.ledger.clock) + len(events)
+        results = self.ledger.batch(events, clock, path == "/transfers")
+        return {"results": [{"result": RESULTS[path][number]} for number, _ in results]}
 
 
-def accounts_told(ledger, ids):
+class Clock:
+    """The clock of a program, which can be put forward."""
+
+    def __init__(self, control):
+        self.control, self.passed = control, 0
+
+    def forward(self, seconds):
+        self.passed += seconds
+        self.control.turn_back(-self.passed)
+
+
+class Served:
+    """A tenant of the program."""
+
+    def __init__(self, desk, clock):
+        self.desk, self.clock = desk, clock
+
+    def wait(self, seconds):
+        self.clock.forward(seconds)
+
+    def ask(self, path, body):
+        reply = self.desk.ask("POST", path, body.encode())
+        want(reply is not None, f"{PAGE}: {path} {body}: unavailable")
+        return json.loads(reply) if isinstance(reply, bytes) else reply
+
+
+def accounts_reply(ledger, ids):
     return {"accounts": [{"id": number, **ledger.balances(int(number))} for number in ids
                          if int(number) in ledger.accounts]}
 
 
-def transfers_told(ledger, ids):
+def transfers_reply(ledger, ids):
     return {"transfers": [ledger.transfers[int(number)] for number in ids
                           if int(number) in ledger.transfers]}
 
 
-def queried(ledger, asked):
-    return {"transfers": ledger.query_transfers(read(asked))[0]}
+def query_reply(ledger, asked):
+    return {"transfers": ledger.query_transfers(numbered(asked))[0]}
 
 
-def balances_told(ledger, asked):
+def balances_reply(ledger, asked):
     """The balances after each entry of an account, the newest first."""
     assert asked["flags"] == NEWEST, asked
     entries = ledger.entries(int(asked["account_id"]))[::-1][:asked["limit"]]
@@ -98,47 +133,40 @@ def balances_told(ledger, asked):
                          for each in entries]}
 
 
-ANSWERS = {"/accounts/lookup": accounts_told, "/transfers/lookup": transfers_told,
-           "/query/transfers": queried, "/history/balances": balances_told}
+ANSWERS = {"/accounts/lookup": accounts_reply, "/transfers/lookup": transfers_reply,
+           "/query/transfers": query_reply, "/history/balances": balances_reply}
+
+
+def compare(steps, tenant):
+    """Takes the steps of a recipe, and compares each reply with the page. How many requests."""
+    count = 0
+    for step in steps:
+        if isinstance(step, int):
+            tenant.wait(step)
+            continue
+        path, body, expected = step
+        reply = in_short(path, tenant.ask(path, body))
+        want(reply == expected, f"{PAGE}: {path} {body}: {reply}, not {expected}")
+        count += 1
+    return count
 
 
 def check():
     """How many requests of the page the plain ledger answers so."""
-    count = 0
-    for steps in recipes():
-        ledger, moment = Ledger(), 0
-        for step in steps:
-            if isinstance(step, int):
-                moment = ledger.clock + step * SECOND
-                continue
-            path, body, expected = step
-            told = in_short(path, judged(ledger, path, body, moment))
-            assert told == expected, f"{PAGE}: {path} {body}: {told}, not {expected}"
-            count += 1
-    assert count, f"{PAGE} has no recipe"
+    count = sum(compare(steps, Plain()) for steps in recipes())
+    want(count, f"{PAGE} has no recipe")
     return count
 
 
-def played(trial):
+def play(trial):
     """How many requests of the page the program answers so: each recipe by a tenant of its own."""
-    house, control, count, passed = House(trial.fresh(), tenants=0), Control(trial.folder), 0, 0
-    listed = list(recipes())
+    house, control, listed = House(trial.fresh(), tenants=0), Control(trial.folder), list(recipes())
     for place in range(len(listed)):
         house.add(f"recipe-{place}")
     house.start(control.env)
+    count, clock = 0, Clock(control)
     for desk, steps in zip(house.desks, listed):
         desk.connect(house.service)
-        for step in steps:
-            if isinstance(step, int):
-                passed += step
-                control.turn_back(-passed)
-                continue
-            path, body, expected = step
-            reply = desk.ask("POST", path, body.encode())
-            want(reply is not None, f"{PAGE}: {path} {body}: unavailable")
-            reply = json.loads(reply) if isinstance(reply, bytes) else reply
-            told = in_short(path, reply)
-            want(told == expected, f"{PAGE}: {path} {body}: {told}, not {expected}")
-            count += 1
+        count += compare(steps, Served(desk, clock))
     house.stop()
     return count

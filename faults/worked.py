@@ -1,6 +1,8 @@
-"""The worked examples of docs/MODEL.md, asked of the plain ledger of `model.py`, so that what the
-campaign compares with is itself compared with the page that it is written from; pages of records,
-worked by hand; and the requests that other pages show with their replies.
+"""The worked examples of docs/MODEL.md, and what other pages show.
+
+The plain ledger of `model.py` has to answer them as the pages say. So what the campaign compares
+with is itself compared with the pages that it is written from. The pages of records are worked by
+hand.
 
     python3 faults/worked.py"""
 
@@ -199,7 +201,7 @@ SHOWN = (check_messages, recipes.check)
 
 def model(trial):
     """What the plain ledger answers, and what the program answers of docs/RECIPES.md."""
-    return (f"{check()} worked examples are answered as they stand, and {recipes.played(trial)} "
+    return (f"{check()} worked examples are answered as they stand, and {recipes.play(trial)} "
             "requests of the recipes by the program")
 
 
