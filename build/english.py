@@ -326,6 +326,8 @@ def main():
         sys.exit(1 if self_test() else 0)
     base = None if options.files else base_of(options.base)
     files = dict.fromkeys(options.files) if base is None else changed_lines(base)
+    if not options.files and base is None:
+        print("no commit to compare with: nothing is looked at")
     many = look(files)
     print(f"{len(files)} files, {many} findings")
     sys.exit(1 if many else 0)
