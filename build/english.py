@@ -11,6 +11,7 @@ and ends with 1 if there is any. Code, header rows of tables, addresses and quot
 import argparse
 import ast
 import io
+import os
 import pathlib
 import re
 import subprocess
@@ -69,7 +70,8 @@ def base_of(revision):
 
 def changed_lines(base):
     """The numbers of the lines that were added or changed, file by file."""
-    diff = git("diff", "-U0", "--no-color", "--no-ext-diff", "--diff-filter=d", base, "--")
+    diff = git("diff", "-U0", "--no-color", "--no-ext-diff", "--diff-filter=d", "--src-prefix=a/",
+               "--dst-prefix=b/", base, "--")
     if diff.returncode:
         sys.exit(diff.stderr.strip())
     lines, name = {}, None
@@ -325,6 +327,8 @@ def main():
     if options.self_test:
         sys.exit(1 if self_test() else 0)
     base = None if options.files else base_of(options.base)
+    if base:
+        os.chdir(git("rev-parse", "--show-toplevel").stdout.strip())
     files = dict.fromkeys(options.files) if base is None else changed_lines(base)
     if not options.files and base is None:
         print("no commit to compare with: nothing is looked at")
