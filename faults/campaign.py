@@ -48,7 +48,7 @@ import worked
 from trial import Trial
 
 TRIALS = {
-    "model": lambda trial: f"{worked.check()} worked examples are answered as they stand",
+    "model": worked.model,
     "runs": runs.long_runs,
     "queries": queries.queries,
     "many": many.many,

@@ -1,6 +1,8 @@
-"""The worked examples of docs/MODEL.md, asked of the plain ledger of `model.py`, so that what the
-campaign compares with is itself compared with the page that it is written from; and pages of
-records, worked by hand.
+"""The worked examples of docs/MODEL.md, and what other pages show.
+
+The plain ledger of `model.py` has to answer them as the pages say. So what the campaign compares
+with is itself compared with the pages that it is written from. The pages of records are worked by
+hand.
 
     python3 faults/worked.py"""
 
@@ -8,6 +10,7 @@ import json
 import pathlib
 import re
 
+import recipes
 from model import ACCOUNT_FIELDS, BALANCES, MAX, TRANSFER_FIELDS, Ledger, page
 from pages import HOLDS, OPEN, PATHS, TRANSFERS, reply
 
@@ -151,7 +154,7 @@ def check():
     ledger = base()
     run(ledger, "100: 1>2 100 f2 | 101: post 100 40 | 102: post 100 60")
     assert ledger.statement(1) == STATEMENT
-    return len(EXAMPLES) + 1 + check_pages() + check_shown()
+    return len(EXAMPLES) + 1 + check_pages() + sum(shown() for shown in SHOWN)
 
 
 def check_pages():
@@ -177,7 +180,7 @@ def check_pages():
     return len(PAGES) + 4 + len(FORWARD) + len(BACK)
 
 
-def check_shown():
+def check_messages():
     """The same of those that docs/MESSAGES.md shows: one at least for each of the routes that it
     tells of."""
     text, ledger = MESSAGES.read_text(), base()
@@ -190,6 +193,16 @@ def check_shown():
         assert reply(ledger, path, asked) == told.encode(), f"{path} {body}"
     assert {path for path in PATHS if f"`{path}`" in text} <= {path for path, _, _ in shown}
     return len(shown)
+
+
+# Pages that show requests with their replies, each by what asks them of the plain ledger.
+SHOWN = (check_messages, recipes.check)
+
+
+def model(trial):
+    """What the plain ledger answers, and what the program answers of docs/RECIPES.md."""
+    return (f"{check()} worked examples are answered as they stand, and {recipes.play(trial)} "
+            "requests of the recipes by the program")
 
 
 if __name__ == "__main__":
