@@ -1,8 +1,8 @@
-# The tests, the gate, and what else may be done with the program; README.md, 'What it needs'.
+# The targets. README.md, 'What it needs', has what each needs and takes.
 #
 #   try      looks at ledgerd in minutes, with checks in place of proofs
 #   play     leaves that program served on a new file
-#   test     runs all tests so, or STEPS="session trials" alone; no proof
+#   test     runs all tests so, or STEPS="session trials" alone; no proof; BASE=REV for the look at English
 #   run      proves and builds ledgerd, and plays the worked session on a new file
 #   prove    the gate: every crate of the product from nothing, and wrong bodies; BASE=REV tries more
 #   prove-tests, must-fail    the proofs of the tests, and every wrong body; of all crates or CRATES=
@@ -59,7 +59,7 @@ play:
 
 # All tests, the session, the client for Python and a sample of the trials, without a proof.
 test:
-	@python3 build/test.py $(STEPS)
+	@BASE=$(BASE) python3 build/test.py $(STEPS)
 
 # Crates are proved side by side, with as many jobs as `-jN` says, else as there are processors.
 ledgerd:
@@ -73,8 +73,8 @@ session: ledgerd
 	python3 examples/session/compare.py examples/session/README.md
 	python3 examples/session/compare.py --blocks README.md
 
-# The gate: every crate of the product from nothing, the program by both compilers, and wrong bodies: of
-# each file that has any one, and with BASE=REV more of each crate that differs from REV.
+# The gate proves every crate of the product from nothing, and builds the program by both compilers. Then
+# it tries a wrong body of each file, and with BASE=REV more of each crate that differs from REV.
 prove:
 	+@BASE=$(BASE) python3 build/gate.py prove
 

@@ -10,8 +10,8 @@ kept. What it has proved stays there: a later run proves what has changed, and w
 are no part of the product, nor are the crates that end in `_tests`: `make test` runs them, and `tests`
 proves them. `rt ci` with no words does all of this too, more slowly: it tries each wrong body by itself.
 
-Wrong bodies: of each file that has any the gate tries one. With BASE it tries more of a crate that
-differs from that revision, in its own files or in a definition that it cites: one of each function that
+The gate tries one wrong body of each file that has any. With BASE it tries more of a crate that differs
+from that revision, in its own files or in a definition that it cites. These are one of each function that
 another crate may call, and one of each file that has no such function. A crate's wrong bodies are tried
 together (build/refusals.py).
 

@@ -34,9 +34,8 @@ def lanes():
 
 
 class Task:
-    """A call, which gets a number of jobs and returns whether all is well; the keys of the tasks that it
-    waits for; and its weight, by which the longest chain of tasks comes first. `seconds` is what it took,
-    once it is done."""
+    """A call, which gets a number of jobs and returns whether all is well. It waits for the tasks with
+    these keys. By the weights the longest chain of tasks comes first. `seconds` is what the call took."""
 
     def __init__(self, key, waits, weight, call):
         self.key, self.waits, self.weight, self.call = key, waits, weight, call

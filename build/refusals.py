@@ -7,10 +7,10 @@ one that it calls. A function's proof needs the contracts of others alone, which
 none is refused for another's sake. What was not refused so is tried by itself, as `rt must-fail` does, and
 so is what changes more than functions' bodies.
 
-The check is asked for these functions alone (`--only`). Of the others each that answers are written for is
-taken by its statement, with a hole for its proof (`--allow-holes`): its own proof is in the same run of the
-gate. What else the check was asked for is proved there, or lacks nothing but the functions that it turns;
-else all is proved in one check more."""
+The check is asked for these functions alone (`--only`). Other functions whose proofs have answers in files
+are taken by their statements, with holes for proofs (`--allow-holes`), since the same run of the gate proves
+them. Everything else that the check was asked for has to be proved there, or to lack only a turned function.
+Where that is not so, one more check proves all."""
 
 import copy
 import os
@@ -39,8 +39,8 @@ def only(asked):
 
 
 def with_holes(crate, asked, room):
-    """The crate in a folder of its own, in which each function that answers are written for, but those
-    that are asked for, is taken by its statement: its proof is a hole."""
+    """A copy of the crate in a folder of its own. Each function whose proof has answers in a file gets a
+    hole for its proof, but for those that are asked for."""
     crate = copy.copy(crate)
     for part in filter(lambda it: os.path.isdir(f"{crate.folder}/{it}"), ("src", "specs", "proofs")):
         shutil.copytree(f"{crate.folder}/{part}", f"{room}/{part}")

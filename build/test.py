@@ -92,6 +92,13 @@ def look(*words, of=1):
     return act
 
 
+def english(step):
+    """The pages and comments that changed since BASE, and the checker itself."""
+    base = os.environ.get("BASE")
+    for words in ["--self-test"], ["--base", base] if base else []:
+        look("build/english.py", *words)(step)
+
+
 def look_at(what):
     """A step of `looks.py`, which counts by itself."""
     def act(step):
@@ -102,7 +109,7 @@ def look_at(what):
 
 
 def build(name):
-    """A program is built. Where the toolchain keeps none, it is told, and the tests go another way."""
+    """Builds a program. Where the toolchain keeps none, this step fails, and the tests run by `rt try`."""
     def act(step):
         with BUILDS:
             status, _ = step.run(PYTHON, "build/checked.py", name, is_shown=True)
@@ -174,7 +181,7 @@ def all_steps():
     steps = [Step(f"build-{name}", build(name)) for name in checked.NAMES]
     steps += [Step("page", look("console/constant.py", "--check")),
               *[Step(it, look_at(it)) for it in ("layout", "wrong-bodies", "scripts")],
-              Step("model", look("faults/worked.py"))]
+              Step("english", english), Step("model", look("faults/worked.py"))]
     for crate, is_over in checked.crates_of_tests().items():
         name = checked.NAMES[1 if is_over else 2]
         act = tests_of(crate, checked.MADE / f"{name}-unproved")

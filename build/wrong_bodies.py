@@ -208,8 +208,8 @@ def groups(crate, edits):
 
 
 def of_the_gate(crate, paths):
-    """Of these edits one of each function that another crate may call, the first by name, one of each file
-    that has none of these, and those that change more than functions' bodies."""
+    """Chooses of these edits the first by name of each function that another crate may call, and the first
+    of each file that has no such function. Those that change more than functions' bodies are all chosen."""
     grouped = groups(crate, paths)
     group = grouped[0][0] if grouped else []
     found = [it for it in group if it.is_open()]
@@ -221,8 +221,8 @@ def of_the_gate(crate, paths):
 
 
 def one_of_each_file(crate, paths):
-    """Of these edits one of each file that has any: the first by name of a function that another crate may
-    call, where there is one."""
+    """Chooses of these edits one of each file: the first by name of a function that another crate may
+    call, or else the first."""
     bodies = [WrongBody(crate, path) for path in paths]
     bodies.sort(key=lambda it: (it.stands_alone(), it.stands_alone() or not it.is_open()))
     found, covered = [], set()
