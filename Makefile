@@ -1,16 +1,16 @@
 # The targets. README.md, 'What it needs', has what each needs and takes.
 #
-#   try      looks at ledgerd in minutes, with checks in place of proofs
-#   play     leaves that program served on a new file
-#   test     runs all tests so, or STEPS="session trials" alone; no proof; BASE=REV for the look at English
-#   run      proves and builds ledgerd, and plays the worked session on a new file
-#   prove    the gate: every crate of the product from nothing, and wrong bodies; BASE=REV tries more
-#   prove-tests, must-fail    the proofs of the tests, and every wrong body; of all crates or CRATES=
-#   session  plays the worked session and compares it with the expected one
-#   faults   tries what may go wrong; faults-long all of it; soak all at once, for MINUTES=60
-#   bench    measures; alloc runs the tests on want of memory with each allocation refused in turn
-#   python   tests the client for Python; console the page for the browser, in chromium
-#   fleet    as root, plays two machines on a replicated volume
+#   try      looks at ledgerd in minutes, with checks in place of proofs.
+#   play     leaves that program served on a new file.
+#   test     runs all tests so, or STEPS="session trials" alone; no proof; BASE=REV for the look at English.
+#   run      proves and builds ledgerd, and plays the worked session on a new file.
+#   prove    the gate: every crate of the product from nothing, and wrong bodies; BASE=REV tries more.
+#   prove-tests, must-fail    the proofs of the tests, and every wrong body; of all crates or CRATES=.
+#   session  plays the worked session and compares it with the expected one.
+#   faults   tries what may go wrong; faults-long all of it; soak all at once, for MINUTES=60.
+#   bench    measures; alloc runs the tests on want of memory with each allocation refused in turn.
+#   python   tests the client for Python; console the page for the browser, in chromium.
+#   fleet    as root, plays two machines on a replicated volume.
 #
 # `try`, `play` and `run` take a free port, or PORT=8080.
 .PHONY: run try play ledgerd session test prove prove-tests must-fail python console fleet faults \
