@@ -19,7 +19,7 @@ import types
 import toolchain
 
 TOP = pathlib.Path(__file__).resolve().parent.parent
-FOLDERS = ("bench", "build", "console", "examples", "faults")
+FOLDERS = ("bench", "build", "clients", "console", "examples", "faults")
 # A path in the text of a shell script. What is built is there only once it is.
 PATH = re.compile(r"(?<![\w./-])(?:bench|build|clients|console|crates|docs|examples|faults)/[\w./-]*\w")
 
@@ -78,13 +78,17 @@ def lacking(tree, text, space):
 
 def look_at_python(file):
     """Imports what the script imports, as it is done when it is started, and returns what it lacks."""
-    text = file.read_text()
+    text, root, package = file.read_text(), file.parent, []
+    while (root / "__init__.py").exists():
+        root, package = root.parent, [root.name, *package]
     tree = ast.parse(text)
-    sys.path[0], sys.argv = str(file.parent), [str(file)]
+    sys.path[0], sys.argv = str(root), [str(file)]
     left = [it for it in tree.body if not is_work(it)]
-    space = {"__name__": file.stem, "__file__": str(file)}
-    exec(compile(ast.Module(left, []), str(file), "exec"), space)
-    return ", ".join(sorted(set(lacking(tree, text, space))))
+    made = types.ModuleType("script")
+    made.__file__, made.__package__ = str(file), ".".join(package)
+    sys.modules[made.__name__] = made
+    exec(compile(ast.Module(left, []), str(file), "exec"), vars(made))
+    return ", ".join(sorted(set(lacking(tree, text, vars(made)))))
 
 
 def look_at_shell(file):

@@ -56,7 +56,7 @@ serve() {
 
 cat <<'TEXT'
 ledgerd is built with checks in place of proofs. It is the same text, for a look: it stops where an
-index, a sum or a memory access would go wrong, and nothing of it is proved here. It serves a copy of
+index or a sum would go wrong, and nothing of it is proved here. It serves a copy of
 examples/ledger/ledger.db, of which nothing is kept.
 TEXT
 
