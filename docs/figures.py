@@ -4,9 +4,9 @@ and back.
     python3 docs/figures.py            writes docs/layers.svg and docs/request.svg
     python3 docs/figures.py --check    ends with 1 where a file is not as it would be written
 
-Both are drawn from the lists below. It refuses a list that is no longer so: a crate of the program
-that has no place among the layers, a crate that stands on one of a higher layer, a function that a
-step names and no file has."""
+Both are drawn from the lists below. It refuses a list that is no longer so. That is a crate of the
+program that has no place among the layers, or a crate that stands on one of a higher layer. Or it is a
+function that a step names and no file has."""
 
 import pathlib
 import re

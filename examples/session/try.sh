@@ -34,7 +34,7 @@ end() {
 trap end EXIT
 trap 'exit 130' INT TERM HUP
 
-# Says where is told why, and ends.
+# Says where the reason stands, and ends.
 fail() {
     echo "make try: $1; $folder/try.log ends with:" >&2
     tail -n 5 "$folder/try.log" >&2
