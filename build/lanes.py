@@ -77,7 +77,10 @@ def done(tasks, most):
             idle = most - sum(running.values())
             if idle < 1:
                 break
-            running[it.key] = max(1, min(MOST_JOBS, idle // (len(ready) - place)))
+            # The longest chain of all decides when the last task is done.
+            is_longest = behind[it.key] == max(behind[key] for key in [*running, *[it.key for it in left]])
+            share = idle // (len(ready) - place)
+            running[it.key] = min(MOST_JOBS, max(share, 2 if is_longest and most > 2 else 1))
             left.remove(it)
             threading.Thread(target=it.run, args=(running[it.key], results), daemon=True).start()
         if running:
