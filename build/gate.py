@@ -85,6 +85,8 @@ class Gate:
         self.all = {it.name: it for it in found}
         needed = {dep.name for name in names for dep in self.all[name].below()}
         self.crates = [it for it in found if it.name in {*names, *needed}]
+        self.left = [it for it in self.crates if not self.is_kept(f"proof {it.name}", self.over(it))]
+        self.passed += len(self.crates) - len(self.left)
 
     def keep(self, key, value):
         """Notes that this was done, or with None that it has to be done anew."""
@@ -100,6 +102,10 @@ class Gate:
 
     def is_kept(self, key, over):
         return self.kept.get(key, [None])[0] == over
+
+    def waits(self, *crates):
+        """The keys of these crates' proofs that this run has to do."""
+        return [f"proof {it.name}" for it in crates if it in self.left]
 
     def refuses_text(self, crate):
         """Whether the crate's text is refused before any proof, as `rt ci` does."""
@@ -170,6 +176,8 @@ class Gate:
     def do(self, tasks):
         """Does all of it, and says how many passed."""
         begun = time.time()
+        if len(self.left) < len(self.crates):
+            print(f"{len(self.crates) - len(self.left)} crates were proved before", flush=True)
         for task in lanes.done(tasks, lanes.lanes()):
             self.tell(task)
         used = resource.getrusage(resource.RUSAGE_CHILDREN)
@@ -182,9 +190,9 @@ class Gate:
 
 
 def proofs(gate):
-    """A task for each crate: its proof."""
-    return [lanes.Task(f"proof {it.name}", [f"proof {dep.name}" for dep in it.deps], it.count(rb"\n"),
-                       lambda jobs, it=it: gate.prove(it, jobs)) for it in gate.crates]
+    """A task for each crate that is not proved: its proof."""
+    return [lanes.Task(f"proof {it.name}", gate.waits(*it.deps), it.count(rb"\n"),
+                       lambda jobs, it=it: gate.prove(it, jobs)) for it in gate.left]
 
 
 def edits(gate, names, chosen):
@@ -195,14 +203,14 @@ def edits(gate, names, chosen):
         gate.failed += [os.path.relpath(path, gate.to) for path in bad]
         paths = chosen(it, good)
         if paths:
-            found.append(lanes.Task(f"edits {it.name}", [f"proof {it.name}"], len(paths),
+            found.append(lanes.Task(f"edits {it.name}", gate.waits(it), len(paths),
                                     lambda jobs, it=it, paths=paths: gate.try_edits(it, paths)))
     return found
 
 
 def programs(gate):
     """A task for each program: it runs, and what it writes is compared."""
-    return [lanes.Task(f"run {it.name}", [f"proof {it.name}"], 0, lambda jobs, it=it: gate.run(it, False))
+    return [lanes.Task(f"run {it.name}", gate.waits(it), 0, lambda jobs, it=it: gate.run(it, False))
             for it in gate.crates if it.is_program]
 
 
@@ -210,9 +218,8 @@ def tests(gate, names):
     """Two tasks for each crate of tests: their proofs, and the run."""
     found = []
     for it in filter(lambda it: it.name in names, gate.crates):
-        waits = [f"proof {it.name}"]
         prove, run = (lambda jobs, it=it: gate.prove(it, jobs, True)), (lambda jobs, it=it: gate.run(it, True))
-        found += [lanes.Task(f"tests {it.name}", waits, it.count(rb"\n"), prove),
+        found += [lanes.Task(f"tests {it.name}", gate.waits(it), it.count(rb"\n"), prove),
                   lanes.Task(f"run {it.name}", [f"tests {it.name}"], 0, run)]
     return found
 
