@@ -18,6 +18,7 @@ together (build/refusals.py).
 Each crate has a line with its seconds, and a log. The last line is 'N passed, M failed'."""
 
 import copy
+import functools
 import json
 import os
 import pathlib
@@ -60,8 +61,13 @@ def copy_crates(names, to):
         shutil.copy2(TOP / file, to / file)
 
 
-class Program:
-    """Mixed into `Crate` of `rt`: the compilers build a program side by side."""
+class Copied:
+    """Mixed into `Crate` of `rt`: a crate of the copy, whose files no one changes. Its sum is taken once, and
+    the compilers build a program side by side."""
+
+    @functools.cache
+    def stamp(self):
+        return super().stamp()
 
     def compile_by(self, backend, words, to):
         if backend == "rattle":
@@ -80,7 +86,7 @@ class Gate:
         self.kept = json.loads(self.kept_file.read_text()) if self.kept_file.exists() else {}
         os.chdir(to)
         rt.Crate.allowed, rt.Crate.cuts_libraries = rt.handles_of(str(to)), True
-        rt.rtlib.Crate = type("Crate", (Program, rt.Crate), {})
+        rt.rtlib.Crate = type("Crate", (Copied, rt.Crate), {})
         found = sorted(rt.rtlib.crates_below(str(to)), key=lambda it: len(it.below()))
         self.all = {it.name: it for it in found}
         needed = {dep.name for name in names for dep in self.all[name].below()}
