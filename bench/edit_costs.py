@@ -1,0 +1,88 @@
+"""Writes what an edit of each crate costs into the table of docs/DEVELOPING.md.
+
+    python3 bench/edit_costs.py [SECONDS]
+
+SECONDS is the file in which `build/prove.py` keeps how long each crate took when it was proved last,
+out/prove/seconds.json if left out. For the figures from nothing, give that of a build that began with
+nothing. Where the file lacks a crate, there is a dash for it and for each sum that it belongs to."""
+
+import json
+import math
+import pathlib
+import sys
+
+TOP = pathlib.Path(__file__).resolve().parent.parent
+PAGE = TOP / "docs/DEVELOPING.md"
+BEGIN, END = "<!-- written by bench/edit_costs.py -->\n", "<!-- end -->\n"
+HEAD = ("| Crate | Lines | It alone, s | Crates above it | With all of these, s | Longest chain up "
+        "to `ledgerd`, s |\n|---|---|---|---|---|---|\n")
+
+
+def crates_of():
+    """The crates of the repository, each with those of the repository that it names."""
+    lines = (it.split("#")[0].partition(":") for it in (TOP / "crates.txt").read_text().splitlines())
+    named = {name.split()[0]: uses.split() for name, colon, uses in lines if colon}
+    return {name: [it for it in uses if it in named] for name, uses in named.items()}
+
+
+def below(crate, crates):
+    """All crates that one stands on, itself among them."""
+    found, due = set(), [crate]
+    while due:
+        it = due.pop()
+        if it not in found:
+            found.add(it)
+            due += crates[it]
+    return found
+
+
+def chain(crate, above, seconds):
+    """The seconds of the longest chain of crates from this one up, if all are known."""
+    further = [chain(it, above, seconds) for it in above[crate]]
+    longest = math.nan if any(map(math.isnan, further)) else max(further, default=0)
+    return seconds.get(crate, math.nan) + longest
+
+
+def told(number):
+    return "–" if math.isnan(number) else f"{number:,}"
+
+
+def lines_of(crate):
+    """The lines of a crate's code, definitions and proofs."""
+    return sum(it.read_text().count("\n") for part, ending in
+               (("src", "rt"), ("specs", "antt"), ("proofs", "antt"))
+               for it in (TOP / "crates" / crate / part).rglob(f"*.{ending}"))
+
+
+def table(seconds):
+    crates = crates_of()
+    program = below("ledgerd", crates)
+    stand_on = {it: below(it, crates) for it in program}
+    above = {it: [user for user in program if it in crates[user]] for it in program}
+    rows = []
+    for it in sorted(program):
+        users = [user for user in program if it in stand_on[user] and user != it]
+        cells = [seconds.get(it, math.nan),
+                 sum(seconds.get(user, math.nan) for user in [it, *users]),
+                 chain(it, above, seconds)]
+        alone, whole, longest = map(told, cells)
+        row = f"| `{it}` | {lines_of(it):,} | {alone} | {len(users)} | {whole} | {longest} |\n"
+        rows.append((-len(users), it, row))
+    lacking = sorted(program - set(seconds))
+    if lacking:
+        print(f"no figure of {', '.join(lacking)}")
+    return HEAD + "".join(row for *_, row in sorted(rows))
+
+
+def main():
+    path = sys.argv[1] if len(sys.argv) > 1 else TOP / "out/prove/seconds.json"
+    seconds = json.loads(pathlib.Path(path).read_text())
+    text = PAGE.read_text()
+    before, begin, rest = text.partition(BEGIN)
+    _, end, behind = rest.partition(END)
+    if not begin or not end:
+        sys.exit(f"{PAGE.name} has no place for the table: {BEGIN.strip()} and {END.strip()}")
+    PAGE.write_text(before + begin + table(seconds) + end + behind)
+
+
+main()
