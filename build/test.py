@@ -171,12 +171,12 @@ def trials(step):
 
 def all_steps():
     """All steps. What takes longest stands first, since the first get the lanes."""
-    steps = [Step(f"build-{name}", build(name)) for name in checked.NAMES]
+    steps = [Step(f"build-{name}", build(name)) for name in checked.LEVELS]
     steps += [Step("page", look("console/constant.py", "--check")),
               *[Step(it, look_at(it)) for it in ("layout", "wrong-bodies", "scripts")],
               Step("model", look("faults/worked.py"))]
     for crate, is_over in checked.crates_of_tests().items():
-        name = checked.NAMES[1 if is_over else 2]
+        name = "tables" if is_over else "lists"
         act = tests_of(crate, checked.MADE / f"{name}-unproved")
         steps += [Step(crate.name, act, [f"build-{name}"])]
     over = [trials, python, examples, session, answers]
