@@ -19,6 +19,7 @@ import subprocess
 import sys
 import threading
 import time
+import traceback
 
 import checked
 import lanes
@@ -57,7 +58,7 @@ class Step:
             _, status, used = os.wait4(ran.pid, 0)
         ran.returncode = os.waitstatus_to_exitcode(status)
         self.used += used.ru_utime + used.ru_stime
-        return ran.returncode, self.log.read_text(errors="replace")[begun:]
+        return ran.returncode, self.log.read_bytes()[begun:].decode(errors="replace")
 
     def count(self, status, passed, failed=0):
         """Counts what passed and failed, and a status that tells of a failure for one at least."""
@@ -74,8 +75,9 @@ class Step:
             self.log.unlink(missing_ok=True)
             try:
                 self.act(self)
-            except OSError as error:
-                self.log.write_text(f"{error}\n")
+            except (Exception, SystemExit):
+                with self.log.open("a") as log:
+                    traceback.print_exc(file=log)
                 self.count(1, 0)
             took = time.monotonic() - begun
         told = f"{self.passed} passed, {self.failed} failed, {took:.0f} s, {self.used:.0f} s of processor"
@@ -84,11 +86,11 @@ class Step:
         self.is_over.set()
 
 
-def look(*words, of=1):
+def look(*words):
     """A step that passes where a program ends with status 0."""
     def act(step):
         status, _ = step.run(PYTHON, *words)
-        step.count(status, 0 if status else of)
+        step.count(status, int(not status))
     return act
 
 
@@ -106,7 +108,7 @@ def build(name):
     def act(step):
         with BUILDS:
             status, _ = step.run(PYTHON, "build/checked.py", name, is_shown=True)
-        step.count(status, 0 if status else 1)
+        step.count(status, int(not status))
     return act
 
 
