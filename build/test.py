@@ -12,6 +12,7 @@ itself stands in out/test/STEP.log, and where it failed the end of that is shown
 `N passed, M failed`, and the status is 1 where something failed. With names of steps these alone run,
 over the programs that are there. `SEED=1234` draws the trials by another seed."""
 
+import contextlib
 import os
 import pathlib
 import re
@@ -40,10 +41,11 @@ in_use no_text addresses desk stopped standby reader refused lint stream memory 
 
 
 class Step:
-    """A step: what it does, behind which others, and what has come of it."""
+    """A step: what it does, behind which others, where there is room, and what has come of it."""
 
-    def __init__(self, name, act, after=()):
+    def __init__(self, name, act, after=(), room=None):
         self.name, self.act, self.after = name, act, after
+        self.room = room or contextlib.nullcontext()
         self.log, self.is_over = LOGS / f"{name}.log", threading.Event()
         self.passed = self.failed = self.used = 0
 
@@ -70,7 +72,7 @@ class Step:
         for it in steps:
             if it.name in self.after:
                 it.is_over.wait()
-        with lane:
+        with self.room, lane:
             begun = time.monotonic()
             self.log.unlink(missing_ok=True)
             try:
@@ -106,8 +108,7 @@ def look_at(what):
 def build(name):
     """A program is built. Where the toolchain keeps none, it is told, and the tests go another way."""
     def act(step):
-        with BUILDS:
-            status, _ = step.run(PYTHON, "build/checked.py", name, is_shown=True)
+        status, _ = step.run(PYTHON, "build/checked.py", name, is_shown=True)
         step.count(status, int(not status))
     return act
 
@@ -173,12 +174,11 @@ def trials(step):
 
 def all_steps():
     """All steps. What takes longest stands first, since the first get the lanes."""
-    steps = [Step(f"build-{name}", build(name)) for name in checked.LEVELS]
+    steps = [Step(f"build-{name}", build(name), room=BUILDS) for name in checked.LEVELS]
     steps += [Step("page", look("console/constant.py", "--check")),
               *[Step(it, look_at(it)) for it in ("layout", "wrong-bodies", "scripts")],
               Step("model", look("faults/worked.py"))]
-    for crate, is_over in checked.crates_of_tests().items():
-        name = "tables" if is_over else "lists"
+    for crate, name in checked.crates_of_tests().items():
         act = tests_of(crate, checked.MADE / f"{name}-unproved")
         steps += [Step(crate.name, act, [f"build-{name}"])]
     over = [trials, python, examples, session, answers]
