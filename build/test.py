@@ -12,6 +12,7 @@ itself stands in out/test/STEP.log, and where it failed the end of that is shown
 `N passed, M failed`, and the status is 1 where something failed. With names of steps these alone run,
 over the programs that are there. `SEED=1234` draws the trials by another seed."""
 
+import contextlib
 import os
 import pathlib
 import re
@@ -19,6 +20,7 @@ import subprocess
 import sys
 import threading
 import time
+import traceback
 
 import checked
 import lanes
@@ -39,10 +41,11 @@ in_use no_text addresses desk stopped standby reader refused lint stream memory 
 
 
 class Step:
-    """A step: what it does, behind which others, and what has come of it."""
+    """A step: what it does, behind which others, where there is room, and what has come of it."""
 
-    def __init__(self, name, act, after=()):
+    def __init__(self, name, act, after=(), room=None):
         self.name, self.act, self.after = name, act, after
+        self.room = room or contextlib.nullcontext()
         self.log, self.is_over = LOGS / f"{name}.log", threading.Event()
         self.passed = self.failed = self.used = 0
 
@@ -57,7 +60,7 @@ class Step:
             _, status, used = os.wait4(ran.pid, 0)
         ran.returncode = os.waitstatus_to_exitcode(status)
         self.used += used.ru_utime + used.ru_stime
-        return ran.returncode, self.log.read_text(errors="replace")[begun:]
+        return ran.returncode, self.log.read_bytes()[begun:].decode(errors="replace")
 
     def count(self, status, passed, failed=0):
         """Counts what passed and failed, and a status that tells of a failure for one at least."""
@@ -69,13 +72,14 @@ class Step:
         for it in steps:
             if it.name in self.after:
                 it.is_over.wait()
-        with lane:
+        with self.room, lane:
             begun = time.monotonic()
             self.log.unlink(missing_ok=True)
             try:
                 self.act(self)
-            except OSError as error:
-                self.log.write_text(f"{error}\n")
+            except (Exception, SystemExit):
+                with self.log.open("a") as log:
+                    traceback.print_exc(file=log)
                 self.count(1, 0)
             took = time.monotonic() - begun
         told = f"{self.passed} passed, {self.failed} failed, {took:.0f} s, {self.used:.0f} s of processor"
@@ -84,11 +88,11 @@ class Step:
         self.is_over.set()
 
 
-def look(*words, of=1):
+def look(*words):
     """A step that passes where a program ends with status 0."""
     def act(step):
         status, _ = step.run(PYTHON, *words)
-        step.count(status, 0 if status else of)
+        step.count(status, int(not status))
     return act
 
 
@@ -111,9 +115,8 @@ def look_at(what):
 def build(name):
     """Builds a program. Where the toolchain keeps none, this step fails, and the tests run by `rt try`."""
     def act(step):
-        with BUILDS:
-            status, _ = step.run(PYTHON, "build/checked.py", name, is_shown=True)
-        step.count(status, 0 if status else 1)
+        status, _ = step.run(PYTHON, "build/checked.py", name, is_shown=True)
+        step.count(status, int(not status))
     return act
 
 
@@ -178,12 +181,11 @@ def trials(step):
 
 def all_steps():
     """All steps. What takes longest stands first, since the first get the lanes."""
-    steps = [Step(f"build-{name}", build(name)) for name in checked.NAMES]
+    steps = [Step(f"build-{name}", build(name), room=BUILDS) for name in checked.LEVELS]
     steps += [Step("page", look("console/constant.py", "--check")),
               *[Step(it, look_at(it)) for it in ("layout", "wrong-bodies", "scripts")],
               Step("english", english), Step("model", look("faults/worked.py"))]
-    for crate, is_over in checked.crates_of_tests().items():
-        name = checked.NAMES[1 if is_over else 2]
+    for crate, name in checked.crates_of_tests().items():
         act = tests_of(crate, checked.MADE / f"{name}-unproved")
         steps += [Step(crate.name, act, [f"build-{name}"])]
     over = [trials, python, examples, session, answers]
