@@ -47,11 +47,14 @@ class BadReply(LedgerError):
 class EventsRefused(LedgerError):
     """Events of a batch were refused: `refused` has the place and the result of each.
 
-    The batch was answered, so its other events stand where their results say so.
+    `first` is the one that failed first by itself, and not because its chain fell. The batch was
+    answered, so its other events stand where their results say so.
     """
 
     def __init__(self, refused: Tuple[Tuple[int, Result], ...]) -> None:
-        told = ", ".join(f"event {place}: {result.name}" for place, result in refused[:5])
-        more = f", and {len(refused) - 5} more" if len(refused) > 5 else ""
-        super().__init__(told + more)
+        by_itself = (each for each in refused if each[1].name != "linked_event_failed")
+        self.first = next(by_itself, refused[0])
         self.refused = refused
+        place, result = self.first
+        more = f", one of {len(refused)} events refused" if len(refused) > 1 else ""
+        super().__init__(f"event {place}: {result.name}{more}")

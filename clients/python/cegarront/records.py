@@ -154,6 +154,12 @@ class Account(_Record):
     credits_posted: int = 0
     timestamp: int = 0
 
+    @property
+    def balance(self) -> int:
+        """What was posted on the credit side less what was on the debit side: what a wallet has.
+        Of an account with its money on the other side, such as a bank's, it is below 0."""
+        return self.credits_posted - self.debits_posted
+
 
 @dataclass(frozen=True)
 class Transfer(_Record):
