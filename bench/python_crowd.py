@@ -1,15 +1,17 @@
 """What threads of the client for Python get of one service, with its defaults: first three of them,
 then twenty, a minute each, in batches of 1,000.
 
-    python3 bench/python_crowd.py LEDGERD [--seconds N] [--client FOLDER]
+    python3 bench/python_crowd.py LEDGERD [--seconds N] [--client FOLDER] [--share S]
 
 FOLDER has the package `cegarront`, `clients/python` if it is not given. Each thread has a `Ledger` of
-its own and sends one batch after the other; a batch that is not answered is sent again. It ends with 1
-where twenty get less than nine tenths of what three get."""
+its own and sends one batch after the other; a batch that is not answered is sent again. With a share
+the service is stopped for the rest of each tenth of a second, so that it is slow on any machine. It
+ends with 1 where twenty get less than nine tenths of what three get."""
 
 import argparse
 import collections
 import pathlib
+import signal
 import socket
 import subprocess
 import sys
@@ -20,6 +22,7 @@ import time
 TOP = pathlib.Path(__file__).resolve().parents[1]
 KEY = "0" * 64
 BATCH, FEW, MANY, LEAST = 1000, 3, 20, 0.9
+PERIOD = 0.1
 
 
 def serve(program, db):
@@ -36,6 +39,15 @@ def serve(program, db):
             return process, f"http://127.0.0.1:{port}"
         except ConnectionRefusedError:
             time.sleep(0.05)
+
+
+def throttle(process, share):
+    """Lets a process run for a share of the time only."""
+    while process.poll() is None:
+        process.send_signal(signal.SIGSTOP)
+        time.sleep(PERIOD * (1 - share))
+        process.send_signal(signal.SIGCONT)
+        time.sleep(PERIOD * share)
 
 
 def work(cegarront, url, until, told):
@@ -75,6 +87,7 @@ def main():
     asked.add_argument("program")
     asked.add_argument("--seconds", type=float, default=60)
     asked.add_argument("--client", default=str(TOP / "clients/python"))
+    asked.add_argument("--share", type=float, default=1.0)
     words = asked.parse_args()
     sys.path.insert(0, words.client)
     import cegarront
@@ -84,6 +97,8 @@ def main():
             with cegarront.Ledger(url, KEY) as ledger:
                 ledger.create_accounts([cegarront.Account(id=1, ledger=7, code=1),
                                         cegarront.Account(id=2, ledger=7, code=1)])
+            if words.share < 1:
+                threading.Thread(target=throttle, args=(process, words.share), daemon=True).start()
             few = crowd(cegarront, url, FEW, words.seconds)
             many = crowd(cegarront, url, MANY, words.seconds)
         finally:

@@ -4,6 +4,8 @@ from __future__ import annotations
 
 from typing import TYPE_CHECKING, Tuple
 
+from .chains import LINKED_EVENT_FAILED
+
 if TYPE_CHECKING:
     from .results import Result
 
@@ -52,7 +54,7 @@ class EventsRefused(LedgerError):
     """
 
     def __init__(self, refused: Tuple[Tuple[int, Result], ...]) -> None:
-        by_itself = (each for each in refused if each[1].name != "linked_event_failed")
+        by_itself = (each for each in refused if each[1].number != LINKED_EVENT_FAILED)
         self.first = next(by_itself, refused[0])
         self.refused = refused
         place, result = self.first

@@ -1,8 +1,11 @@
 """The client as a process that clients/harness drives: a call a line, and what it gave.
 
-    python3 clients/python/tests/driver.py
-"""
+    python3 clients/python/tests/driver.py [async]
 
+With `async` the client is the one for asyncio."""
+
+import asyncio
+import inspect
 import json
 import pathlib
 import sys
@@ -14,6 +17,7 @@ from cegarront import (  # noqa: E402
     Account,
     AccountFilter,
     AccountFlag,
+    AsyncLedger,
     BadReply,
     EventsRefused,
     FilterFlag,
@@ -75,26 +79,35 @@ def page(told):
     return {**answer, "next": str(told.next)} if hasattr(told, "next") else answer
 
 
-def answer(ledger, asked):
+async def value_of(told):
+    """What a call gives, of either form."""
+    if inspect.isawaitable(told):
+        return await told
+    return [each async for each in told] if hasattr(told, "__aiter__") else told
+
+
+async def answer(ledger, asked):
     call = asked["call"]
     if call in ("create_accounts", "create_transfers"):
         kind = Account if call == "create_accounts" else Transfer
         events = [record(kind, each) for each in asked["events"]]
-        return batch(getattr(ledger, call)(events), asked.get("all"))
+        return batch(await value_of(getattr(ledger, call)(events)), asked.get("all"))
     if call in ASKED:
-        told = getattr(ledger, call)(record(ASKED[call], asked["asked"]))
+        told = await value_of(getattr(ledger, call)(record(ASKED[call], asked["asked"])))
         if call.startswith("iter_"):
             return {"items": [shown(each) for each in told]}
         return page(told)
     if call == "follow":
         limit = {"limit": asked["limit"]} if "limit" in asked else {}
+        pages = await value_of(ledger.follow(int(asked["number"]), **limit))
         return {"pages": [{"items": [shown(each) for each in transfers], "number": str(number)}
-                          for transfers, number in ledger.follow(int(asked["number"]), **limit)]}
+                          for transfers, number in pages]}
     if call == "statement":
-        return {"items": [shown(each) for each in ledger.statement(int(asked["account"]))]}
+        entries = await value_of(ledger.statement(int(asked["account"])))
+        return {"items": [shown(each) for each in entries]}
     if call == "health":
-        return {"serving": ledger.health()}
-    return page(getattr(ledger, call)([int(each) for each in asked["ids"]]))
+        return {"serving": await value_of(ledger.health())}
+    return page(await value_of(getattr(ledger, call)([int(each) for each in asked["ids"]])))
 
 
 def failure(error):
@@ -109,21 +122,21 @@ def failure(error):
     return told
 
 
-def main():
+async def main(kind):
     ledger = None
-    for line in sys.stdin:
+    while line := await asyncio.to_thread(sys.stdin.readline):
         asked = json.loads(line)
         try:
             if "open" in asked:
                 told = asked["open"]
-                ledger = Ledger(told["url"], told["key"], deadline=told["deadline"])
+                ledger = kind(told["url"], told["key"], deadline=told["deadline"])
                 given = {}
             else:
-                given = answer(ledger, asked)
+                given = await answer(ledger, asked)
         except (LedgerError, TypeError, ValueError) as error:
             given = {"error": failure(error)}
         print(json.dumps(given), flush=True)
 
 
 if __name__ == "__main__":
-    main()
+    asyncio.run(main(AsyncLedger if sys.argv[1:] == ["async"] else Ledger))
