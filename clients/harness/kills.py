@@ -162,7 +162,7 @@ def storm(service, words, seed, seconds):
         each.start()
     kills = 0
     while time.monotonic() < until:
-        time.sleep(drawn.uniform(0.3, 1.5))
+        time.sleep(drawn.uniform(0.5, 3))
         service.kill()
         kills += 1
         time.sleep(drawn.choice((0, 0, 0.3)))

@@ -209,11 +209,11 @@ class AsyncTransport:
         try:
             opening = Connection.opened(self._address, self._context)
             connection = await asyncio.wait_for(opening, patience)
+            connection.watch(self._timeout)
         except ssl.SSLCertVerificationError:
             raise
         except (OSError, asyncio.TimeoutError) as error:
             raise NoAnswer(told(error), was_sent=False) from error
-        connection.watch(self._timeout)
         return connection
 
     def _kept(self) -> Optional[Connection]:

@@ -132,13 +132,13 @@ class Transport:
             connection = http.client.HTTPConnection(host, port, timeout=patience)
         try:
             connection.connect()
+            watch(connection.sock, self._timeout)
         except ssl.SSLCertVerificationError:
             connection.close()
             raise
         except OSError as error:
             connection.close()
             raise NoAnswer(told(error), was_sent=False) from error
-        watch(connection.sock, self._timeout)
         return connection
 
     def _kept(self) -> Optional[http.client.HTTPConnection]:
