@@ -91,3 +91,5 @@ bench:
 
 alloc:
 	bench/alloc
+
+include build/packages.mk clients/clients.mk

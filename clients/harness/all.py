@@ -56,8 +56,9 @@ def clients(room):
 
 
 def told(words):
-    """A command in one line."""
-    return " ".join(os.path.relpath(each, TOP) if os.path.isabs(each) else each for each in words)
+    """A command in one line: paths of the repository from its folder on, others by their names."""
+    return " ".join(each.replace(f"{TOP}/", "") if each.startswith(f"{TOP}/")
+                    else os.path.basename(each) if os.path.isabs(each) else each for each in words)
 
 
 def run(name, words, folder=TOP, env=None, wanted=None):
