@@ -7,7 +7,7 @@ import http.client
 import io
 import ssl
 import time
-from typing import List, Optional
+from typing import Iterable, List, Optional, SupportsIndex
 
 from .blocking import abandon, told, watch
 from .errors import Unanswered
@@ -23,9 +23,10 @@ class _Reader(asyncio.StreamReader):
     def is_quiet(self) -> bool:
         return self._unread == 0 and not self._has_ended
 
-    def feed_data(self, data: bytes) -> None:
-        self._unread += len(data)
-        super().feed_data(data)
+    def feed_data(self, data: Iterable[SupportsIndex]) -> None:
+        came = bytes(data)
+        self._unread += len(came)
+        super().feed_data(came)
 
     def feed_eof(self) -> None:
         self._has_ended = True
