@@ -120,7 +120,10 @@ export class Transport {
             }
             catch (error) {
                 until.signal?.throwIfAborted();
-                return failureOf(error);
+                if (!ending.signal.aborted)
+                    return failureOf(error);
+                const text = "no answer before the deadline";
+                return { text, wasSent: true, retryAfter: 0, cause: error };
             }
             finally {
                 this.#leave();

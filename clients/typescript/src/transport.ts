@@ -159,7 +159,9 @@ export class Transport {
         return await this.#exchange(message, ending.signal);
       } catch (error) {
         until.signal?.throwIfAborted();
-        return failureOf(error);
+        if (!ending.signal.aborted) return failureOf(error);
+        const text = "no answer before the deadline";
+        return { text, wasSent: true, retryAfter: 0, cause: error };
       } finally {
         this.#leave();
       }
