@@ -1,12 +1,12 @@
-"""What threads of the client for Python get of one service, with its defaults: first three of them,
-then twenty, a minute each, in batches of 1,000.
+"""Measures what threads of the Python client get from one service, with default settings: first three
+threads, then twenty, for a minute each, in batches of 1,000.
 
     python3 bench/python_crowd.py LEDGERD [--seconds N] [--client FOLDER] [--share S]
 
-FOLDER has the package `cegarront`, `clients/python` if it is not given. Each thread has a `Ledger` of
-its own and sends one batch after the other; a batch that is not answered is sent again. With a share
-the service is stopped for the rest of each tenth of a second, so that it is slow on any machine. It
-ends with 1 where twenty get less than nine tenths of what three get."""
+FOLDER has the package `cegarront`, by default `clients/python`. Each thread has its own `Ledger`, sends
+batch after batch, and resends a batch that gets no answer. S limits the service to that share of the
+time, so that it is slow on any machine. The exit status is 1 if twenty threads get less than nine tenths
+of what three get."""
 
 import argparse
 import collections
@@ -42,7 +42,7 @@ def serve(program, db):
 
 
 def throttle(process, share):
-    """Lets a process run for a share of the time only."""
+    """Stops a process for all but a share of the time."""
     while process.poll() is None:
         process.send_signal(signal.SIGSTOP)
         time.sleep(PERIOD * (1 - share))
@@ -51,7 +51,7 @@ def throttle(process, share):
 
 
 def work(cegarront, url, until, told):
-    """Sends batches until the time is over, and counts what became of them within it."""
+    """Sends batches until the time is over, and counts the answers."""
     with cegarront.Ledger(url, KEY) as ledger:
         while time.monotonic() < until:
             batch = [cegarront.Transfer(id=cegarront.new_id(), debit_account_id=1,
@@ -69,7 +69,7 @@ def work(cegarront, url, until, told):
 
 
 def crowd(cegarront, url, threads, seconds):
-    """Transfers a second that so many threads were answered."""
+    """The transfers per second that were answered to a number of threads."""
     told, until = collections.Counter(), time.monotonic() + seconds
     all_of = [threading.Thread(target=work, args=(cegarront, url, until, told))
               for _ in range(threads)]

@@ -1,7 +1,6 @@
-# What is installed, and what is handed on (build/packages.py): `make install`, below DESTDIR and
-# PREFIX; `make dist`, a tar with its sums; `make deb`, a package for Debian. They build no program: they
-# take the proved one, or the one that LEDGERD= names, and the manifest says which. GATE= is what
-# `make test` has printed, kept in a file.
+# Packages (build/packages.py): `make install` installs below DESTDIR and PREFIX, `make dist` builds a tar
+# with its sums, and `make deb` a Debian package. They take the proved program, or the one in LEDGERD=,
+# and the manifest says which. None of them builds it. GATE= is a file with the output of `make test`.
 .PHONY: install dist deb
 
 PREFIX ?= /usr/local

@@ -4,9 +4,8 @@
     python3 build/packages.py --program PATH --gate FILE dist
     python3 build/packages.py --program PATH --gate FILE deb
 
-PATH is the program, and FILE has what `make test` printed; where there is none the manifest says so.
-Packages go to out/packages, with SHA256SUMS of all that stand there. From one commit and one program the
-same bytes come each time."""
+PATH is the program, and FILE has the output of `make test`; without it the manifest says so. Packages go
+to out/packages, with SHA256SUMS of all files there. The same commit and program give the same bytes."""
 
 import argparse
 import gzip
@@ -26,14 +25,14 @@ OUT = TOP / "out/packages"
 PROVED = TOP / "crates/ledgerd/out/ledgerd"
 UNIT = TOP / "examples/operating/ledgerd.service"
 VERSION = (TOP / "VERSION").read_text().strip()
-# The package of Debian that has a library, beside the C library's own.
+# The Debian package of each library besides the C library's own.
 LIBRARIES = {"libgcc_s.so.1": "libgcc-s1"}
 ARCHITECTURES = {"x86_64": "amd64", "aarch64": "arm64"}
 SUMMARY = "multi-tenant double-entry ledger over HTTP"
 
 
 def asked_of(*words):
-    """What a command prints, in the folder of the repository."""
+    """The output of a command in the folder of the repository."""
     return subprocess.run(words, cwd=TOP, check=True, capture_output=True, text=True).stdout.strip()
 
 
@@ -42,28 +41,28 @@ def sum_of(content):
 
 
 def proof(program):
-    """What is known of the program's proof."""
+    """Whether the program is the proved one."""
     if program.resolve() == PROVED.resolve():
         return "yes: crates/ledgerd/out/ledgerd, which `make ledgerd` proves and builds"
-    return "NO: another program than the one that `make ledgerd` builds was given"
+    return "NO: this is not the program that `make ledgerd` proves and builds"
 
 
 def commit():
     if not ((TOP / ".git").exists() and shutil.which("git")):
-        return "not known: these sources are no clone"
+        return "unknown: not a git repository"
     changed = asked_of("git", "status", "--porcelain", "--untracked-files=no")
     return asked_of("git", "rev-parse", "HEAD") + (", with changes" if changed else "")
 
 
 def gate(path):
-    """The last line that the gate printed."""
+    """The last line of the gate's output."""
     if not path.is_file():
-        return f"nothing is kept: `make test | tee {path}` before this"
+        return f"not kept: run `make test | tee {path}` first"
     return path.read_text().rstrip("\n").rpartition("\n")[2]
 
 
 def manifest(program, printed):
-    """What was packed, line by line."""
+    """The manifest of a package."""
     lines = {"version": VERSION, "commit": commit(), "proved": proof(program), "gate": gate(printed),
              "program": f"sha256 {sum_of(program.read_bytes())}"}
     told = asked_of(str(program.resolve()), "version").splitlines()
@@ -72,7 +71,7 @@ def manifest(program, printed):
 
 
 def pages():
-    """The pages by their names below the folder of pages."""
+    """The pages by name."""
     found = {"README.md": TOP / "README.md", "CHANGELOG.md": TOP / "CHANGELOG.md"}
     for pattern in ("*.md", "openapi.yaml"):
         found.update((f"docs/{each.name}", each) for each in sorted((TOP / "docs").glob(pattern)))
@@ -80,7 +79,7 @@ def pages():
 
 
 def tree(program, prefix, manifested):
-    """What is installed: by its path below `prefix`, the content and the mode."""
+    """The installed files by path below `prefix`: content and mode."""
     unit = UNIT.read_text().replace("/usr/local/bin/ledgerd", f"{prefix}/bin/ledgerd")
     files = {"bin/ledgerd": (program.read_bytes(), 0o755),
              "lib/systemd/system/ledgerd.service": (unit.encode(), 0o644),
@@ -94,7 +93,7 @@ def write(files, folder):
     for name, (content, mode) in files.items():
         path = folder / name
         path.parent.mkdir(parents=True, exist_ok=True)
-        # A program that runs cannot be written over.
+        # A running program cannot be overwritten.
         beside = path.with_name(f"{path.name}.new")
         beside.write_bytes(content)
         beside.chmod(mode)
@@ -110,7 +109,7 @@ def install(words, program):
 
 
 def wheel():
-    """The wheel of the client for Python, by its name."""
+    """The name and content of the Python client's wheel."""
     with tempfile.TemporaryDirectory() as room:
         made = asked_of(sys.executable, str(TOP / "clients/python/build_wheel.py"), room)
         return made, pathlib.Path(room, made).read_bytes()
@@ -136,7 +135,7 @@ def dist(words, program):
 
 
 def dependencies(program):
-    """The packages of Debian that the program needs."""
+    """The Debian packages that the program needs."""
     linked = asked_of("ldd", str(program.resolve()))
     content = program.read_bytes()
     least = max(int(minor) for minor in re.findall(rb"GLIBC_2\.(\d+)\0", content))
@@ -153,8 +152,8 @@ def control(program, size):
             f"Installed-Size: {size // 1024 + 1}\nSection: database\nPriority: optional\n"
             f"Description: {SUMMARY}\n"
             " Accounts, transfers, holds and chains for several firms, kept in one SQLite\n"
-            " database and asked over HTTP and JSON. MANIFEST, beside the pages, says what\n"
-            " was proved of this program.\n")
+            " database and asked over HTTP and JSON. MANIFEST, among the pages, says\n"
+            " whether this program is the proved one.\n")
 
 
 def deb(words, program):

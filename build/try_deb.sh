@@ -45,7 +45,7 @@ cp "$deb" "$root/ledgerd.deb"
 
 inside dpkg -i /ledgerd.deb
 must "the program runs" equal "$(inside ledgerd version | sed -n 2p)" "schema 3"
-must "no library is lacking" equal "$(inside ldd /usr/bin/ledgerd | grep -c 'not found')" 0
+must "no library is missing" equal "$(inside ldd /usr/bin/ledgerd | grep -c 'not found')" 0
 must "the folder is its user's alone" \
     equal "$(inside stat -c '%U:%G %a' /var/lib/ledgerd)" "ledgerd:ledgerd 700"
 must "the unit names the program" grep -q '^ExecStart=/usr/bin/ledgerd serve' \

@@ -3,8 +3,8 @@ package cegarront
 // Chains that were sent again, and whether they stand.
 //
 // A chain stands or falls whole, and inside it exists is a failure. So a chain that was accepted, sent
-// again, answers exists for its first event and linked_event_failed for all others, as does one of which
-// an event or two are there by another request. A look-up of all its ids tells which.
+// again, answers exists for its first event and linked_event_failed for all others. So does a chain of
+// which another request has booked an event or two. A look-up of all its ids shows which it is.
 
 const (
 	accountExists     = 13
@@ -15,7 +15,7 @@ const (
 // span has the places of a chain in its batch, the end not included.
 type span struct{ from, to int }
 
-// chainsOf gives the chains of a batch of n events. One that is not linked is a chain of its own.
+// chainsOf returns the chains of a batch of n events. An event that is not linked is a chain of its own.
 func chainsOf(n int, isLinked func(place int) bool) []span {
 	var chains []span
 	from := 0
@@ -28,7 +28,7 @@ func chainsOf(n int, isLinked func(place int) bool) []span {
 	return chains
 }
 
-// mayStand tells whether these are the results of a chain of several events that may have been accepted.
+// mayStand reports whether these are the results of a chain of several events that may have been accepted.
 func mayStand(results []Result, exists int) bool {
 	if len(results) < 2 || results[0].Number != exists {
 		return false
@@ -41,7 +41,7 @@ func mayStand(results []Result, exists int) bool {
 	return true
 }
 
-// accountStands tells whether an account is there with the fields sent.
+// accountStands reports whether an account exists with the fields sent.
 func accountStands(sent, there Account) bool {
 	return sent.Flags == there.Flags &&
 		sent.UserData128 == there.UserData128 &&
@@ -51,7 +51,7 @@ func accountStands(sent, there Account) bool {
 		sent.Code == there.Code
 }
 
-// idsToLookUp gives the ids of transfers, and of the holds that they post whole.
+// idsToLookUp returns the ids of transfers, and of the holds that they post in full.
 func idsToLookUp(sent []Transfer) []Uint128 {
 	var ids []Uint128
 	seen := make(map[Uint128]bool)
@@ -72,8 +72,8 @@ func idsToLookUp(sent []Transfer) []Uint128 {
 	return ids
 }
 
-// transferStands tells whether a transfer is there with the fields sent, by the rules by which the ledger
-// answers exists. found has the transfers of the idsToLookUp.
+// transferStands reports whether a transfer exists with the fields sent, by the rules with which the ledger
+// answers exists. found has the transfers of idsToLookUp.
 func transferStands(sent Transfer, found map[Uint128]Transfer) bool {
 	there, ok := found[sent.ID]
 	if !ok || sent.Flags != there.Flags || sent.PendingID != there.PendingID ||
@@ -92,7 +92,7 @@ func transferStands(sent Transfer, found map[Uint128]Transfer) bool {
 		amountStands(sent, there, found)
 }
 
-// same tells whether two values are equal, or the first is left out where it may be.
+// same reports whether two values are equal, or the first is 0 and may be omitted.
 func same[T comparable](sent, there T, mayBeLeftOut bool) bool {
 	var none T
 	return sent == there || mayBeLeftOut && sent == none

@@ -12,8 +12,8 @@ var (
 	ErrBadReply = errors.New("no reply of a ledger")
 	// ErrEventsRefused: events of a batch were refused.
 	ErrEventsRefused = errors.New("events refused")
-	// ErrOlderLedger: the ledger's clock is behind what a follower was told, so an older copy of its
-	// file was put back.
+	// ErrOlderLedger: the ledger's clock is before a follower's number, so an older copy of its file was
+	// restored.
 	ErrOlderLedger = errors.New("an older ledger")
 	// ErrInvalid: it cannot be sent, and nothing was.
 	ErrInvalid = errors.New("it cannot be sent")
@@ -27,7 +27,7 @@ type Refusal string
 
 func (r Refusal) Error() string { return string(r) }
 
-// Refusals that a program may want to tell apart. Others are compared as Refusal("bad_field").
+// Refusals that a program may want to distinguish. Compare others as Refusal("bad_field").
 const (
 	UnknownKey     = Refusal("unknown_key")
 	NoAccount      = Refusal("no_account")
@@ -40,12 +40,12 @@ const (
 type Error struct {
 	// Kind is a Refusal, or one of the Err values.
 	Kind error
-	// Status is the HTTP status beside a Refusal.
+	// Status is the HTTP status of a Refusal.
 	Status int
-	// MayBeBooked is true where a sending of the call's batch was left without an answer, so that the
-	// batch may stand in the ledger all the same. Then send the same events with the same ids again:
-	// only an answer tells. A look-up that finds nothing does not, since the batch may still be on its
-	// way.
+	// MayBeBooked is true if an attempt to send the call's batch got no answer, so that the batch may
+	// stand in the ledger all the same. Then send the same events with the same ids again:
+	// only an answer is conclusive. A look-up that finds nothing is not, since the batch may still be on
+	// its way.
 	MayBeBooked bool
 	// Cause is the last failure, or nil.
 	Cause error
@@ -64,10 +64,10 @@ func (e *Error) Error() string {
 
 func (e *Error) Unwrap() error { return e.Cause }
 
-// Is tells whether the error is of this kind.
+// Is reports whether the error is of this kind.
 func (e *Error) Is(target error) bool { return e.Kind == target }
 
-// MayBeBooked tells whether an error leaves open that the call's batch stands in the ledger.
+// MayBeBooked reports whether an error leaves open that the call's batch stands in the ledger.
 func MayBeBooked(err error) bool {
 	var failed *Error
 	return errors.As(err, &failed) && failed.MayBeBooked
@@ -83,7 +83,7 @@ type RefusedEvent struct {
 // events stand where their results say so.
 type EventsRefusedError struct{ Refused []RefusedEvent }
 
-// First is the event that failed first by itself, and not because its chain fell.
+// First is the event that caused the first failure, not one that fell with its chain.
 func (e *EventsRefusedError) First() RefusedEvent {
 	for _, each := range e.Refused {
 		if each.Result.Number != linkedEventFailed {
@@ -102,7 +102,7 @@ func (e *EventsRefusedError) Error() string {
 	return text
 }
 
-// Is tells that the error is ErrEventsRefused.
+// Is reports that the error is ErrEventsRefused.
 func (e *EventsRefusedError) Is(target error) bool { return target == ErrEventsRefused }
 
 func invalid(format string, words ...any) error {

@@ -5,7 +5,7 @@ import (
 	"fmt"
 )
 
-// Iterator goes through items, whose pages are fetched as they are needed:
+// Iterator goes through items, and fetches their pages as needed:
 //
 //	transfers := ledger.IterTransfers(cegarront.QueryFilter{})
 //	for transfers.Next(ctx) {
@@ -20,7 +20,7 @@ type Iterator[T any] struct {
 	err    error
 }
 
-// Next goes on to the next item. It is false behind the last one, or where a page could not be had.
+// Next advances to the next item. It returns false after the last one, or if fetching a page failed.
 func (it *Iterator[T]) Next(ctx context.Context) bool {
 	for len(it.items) == 0 {
 		if it.isLast || it.err != nil {
@@ -32,10 +32,10 @@ func (it *Iterator[T]) Next(ctx context.Context) bool {
 	return true
 }
 
-// Item is the item that Next went on to.
+// Item is the current item.
 func (it *Iterator[T]) Item() T { return it.item }
 
-// Err is why Next was false, or nil behind the last item.
+// Err is why Next returned false, or nil after the last item.
 func (it *Iterator[T]) Err() error { return it.err }
 
 // IterAccountTransfers goes through all transfers of an account that the filter asks for.
@@ -88,7 +88,7 @@ func allOf[T any](f AccountFilter, pageOf func(context.Context, AccountFilter) (
 	}}
 }
 
-// allPages goes through the pages of a query, whose times f has.
+// allPages goes through the pages of a query. f has the query's times.
 func allPages[T any](f *PageFilter, pageOf func(context.Context) (QueryPage[T], error)) *Iterator[T] {
 	return &Iterator[T]{fetch: func(ctx context.Context) ([]T, bool, error) {
 		page, err := pageOf(ctx)
@@ -101,17 +101,16 @@ func allPages[T any](f *PageFilter, pageOf func(context.Context) (QueryPage[T], 
 	}}
 }
 
-// Follower gives the transfers that were accepted since a number was told, each once and in order, page
-// by page:
+// Follower returns the transfers accepted since a number, each once and in order, page by page:
 //
 //	pages := ledger.Follow(number)
 //	for pages.Next(ctx) {
-//		use(pages.Transfers()) // and keep pages.Number(): both or neither
+//		use(pages.Transfers()) // and store pages.Number(): both or neither
 //	}
 //	if err := pages.Err(); err != nil { ... }
 //
-// It ends where there is no more for now; follow again later, with the number that was kept last. Who
-// keeps it together with what was done, in one step, loses and doubles nothing by a kill.
+// It ends when there is no more for now; follow again later, from the number stored last. Store the
+// number together with your own work, in one step: then a crash neither loses nor repeats anything.
 type Follower struct {
 	// Limit is the most transfers of a page, 1,000 if 0.
 	Limit     int
@@ -122,11 +121,11 @@ type Follower struct {
 	err       error
 }
 
-// Follow begins behind a number, which is 0 at first.
+// Follow continues from a number, which is 0 at first.
 func (l *Ledger) Follow(number uint64) *Follower { return &Follower{ledger: l, number: number} }
 
-// Next goes on to the next page. It is false where there is no more for now, or an error. ErrOlderLedger:
-// the ledger's clock is behind the number, and who follows it begins anew.
+// Next advances to the next page. It returns false when there is no more for now, or after an error.
+// After ErrOlderLedger the follower has to start over: the ledger's clock is before the number.
 func (f *Follower) Next(ctx context.Context) bool {
 	for !f.isLast && f.err == nil {
 		page, err := f.ledger.QueryTransfers(ctx, QueryFilter{
@@ -140,7 +139,7 @@ func (f *Follower) Next(ctx context.Context) bool {
 			later = page.Clock + 1
 		}
 		if later < f.number {
-			cause := fmt.Errorf("the clock %d is behind %d", page.Clock, f.number)
+			cause := fmt.Errorf("the clock %d is before %d", page.Clock, f.number)
 			f.err = &Error{Kind: ErrOlderLedger, Cause: cause}
 			return false
 		}
@@ -156,8 +155,8 @@ func (f *Follower) Next(ctx context.Context) bool {
 // Transfers are those of the page.
 func (f *Follower) Transfers() []Transfer { return f.transfers }
 
-// Number is the one to keep together with what was done with the page.
+// Number is the number to store together with your work on the page.
 func (f *Follower) Number() uint64 { return f.number }
 
-// Err is why Next was false, or nil where there is no more for now.
+// Err is why Next returned false, or nil if there is no more for now.
 func (f *Follower) Err() error { return f.err }

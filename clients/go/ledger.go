@@ -19,26 +19,25 @@ const (
 
 var isKey = regexp.MustCompile(`^[0-9A-Fa-f]{64}$`).MatchString
 
-// Options of a Ledger. What is left 0 is as it says.
+// Options of a Ledger. The zero value has the defaults.
 type Options struct {
-	// Deadline is how long a call may take in all, a minute if 0. A context may end it before.
+	// Deadline limits a whole call, and is a minute by default. A context may end the call earlier.
 	Deadline time.Duration
-	// Connections is how many are open at once at most, 16 if 0.
+	// Connections is the most that are open at once, 16 by default.
 	Connections int
-	// TLS is for an https address, of a proxy.
+	// TLS is for the https address of a proxy.
 	TLS *tls.Config
 }
 
 // Ledger is a tenant's ledger. Goroutines may share it.
 //
-// A call's answer is waited for until its deadline, as long as the connection stands, and a message is
-// sent again by one rule, the same bytes after growing pauses: where the connection was cut or could not
-// be made, where the service is unavailable, and where it is busy or told too_much. That never books an
-// event twice.
+// A call waits for its answer until its deadline, as long as the connection stands. It resends the same
+// bytes, after growing pauses, if the connection was cut or refused, if the service is unavailable, and
+// if it replies busy or too_much. That never books an event twice.
 //
-// Calls return an *Error: ErrUnanswered where no answer came in time, a Refusal where the service refuses
-// the request, ErrBadReply where something else answers, and ErrInvalid, before anything is sent, for
-// what cannot be sent.
+// Calls return an *Error: ErrUnanswered if no answer came in time, a Refusal if the service refuses the
+// request, ErrBadReply if something other than a ledger answers, and ErrInvalid, before anything is sent,
+// for invalid arguments.
 type Ledger struct {
 	transport *transport
 	deadline  time.Duration
@@ -74,7 +73,7 @@ func New(address, key string, options *Options) (*Ledger, error) {
 // Close closes the connections that are idle. A later call opens new ones.
 func (l *Ledger) Close() { l.transport.client.CloseIdleConnections() }
 
-// CreateAccounts opens accounts, as one batch of at most 1,000, and gives a result for each.
+// CreateAccounts opens accounts, as one batch of at most 1,000, and returns a result for each.
 func (l *Ledger) CreateAccounts(ctx context.Context, accounts []Account) (Results, error) {
 	body, err := listJSON(accounts, "events", accountJSON)
 	if err != nil {
@@ -87,8 +86,8 @@ func (l *Ledger) CreateAccounts(ctx context.Context, accounts []Account) (Result
 		func(chain span) (bool, error) { return l.accountsStand(ctx, accounts[chain.from:chain.to]) })
 }
 
-// CreateTransfers sends transfers, posts and voids, as one batch of at most 1,000, and gives a result for
-// each. A batch of none moves the clock, so that holds which are due expire.
+// CreateTransfers sends transfers, posts and voids, as one batch of at most 1,000, and returns a result
+// for each. An empty batch moves the clock, so that holds that are due expire.
 func (l *Ledger) CreateTransfers(ctx context.Context, transfers []Transfer) (Results, error) {
 	body, err := listJSON(transfers, "events", transferJSON)
 	if err != nil {
@@ -101,57 +100,56 @@ func (l *Ledger) CreateTransfers(ctx context.Context, transfers []Transfer) (Res
 		func(chain span) (bool, error) { return l.transfersStand(ctx, transfers[chain.from:chain.to]) })
 }
 
-// LookupAccounts gives the accounts with these ids that are there, at most 1,000, in the order asked.
-// Sums are those at the ledger's clock: a hold that is due is among them until the next batch, or until
-// the service releases it by itself, within seconds.
+// LookupAccounts returns the accounts that exist among at most 1,000 ids, in the order asked. Sums are
+// those at the ledger's clock: they include a hold that is due until the next batch, or until the service
+// releases it, within seconds.
 func (l *Ledger) LookupAccounts(ctx context.Context, ids []Uint128) (Page[Account], error) {
 	return lookUp[Account](ctx, l, "/accounts/lookup", ids, "accounts")
 }
 
-// LookupTransfers gives the transfers with these ids that are there, at most 1,000, in the order asked.
-// One that is not there may still be on its way, if its batch had no answer.
+// LookupTransfers returns the transfers that exist among at most 1,000 ids, in the order asked. A missing
+// one may still be on its way, if its batch got no answer.
 func (l *Ledger) LookupTransfers(ctx context.Context, ids []Uint128) (Page[Transfer], error) {
 	return lookUp[Transfer](ctx, l, "/transfers/lookup", ids, "transfers")
 }
 
-// LookupPending tells what has become of the pending transfers with these ids. What is none is left out.
+// LookupPending returns the state of the pending transfers with these ids. It omits other ids.
 func (l *Ledger) LookupPending(ctx context.Context, ids []Uint128) (Page[Hold], error) {
 	return lookUp[Hold](ctx, l, "/pending/lookup", ids, "pending")
 }
 
-// AccountTransfers gives a page of an account's transfers. NoAccount is a refusal of it.
+// AccountTransfers returns a page of an account's transfers. The service may refuse it with NoAccount.
 func (l *Ledger) AccountTransfers(ctx context.Context, f AccountFilter) (Page[Transfer], error) {
 	return history[Transfer](ctx, l, "/history/transfers", f, "transfers")
 }
 
-// AccountBalances gives a page of an account's sums after its transfers. NoAccount and NoHistory are
-// refusals of it.
+// AccountBalances returns a page of an account's sums after its transfers. The service may refuse it with
+// NoAccount or NoHistory.
 func (l *Ledger) AccountBalances(ctx context.Context, f AccountFilter) (Page[Balance], error) {
 	return history[Balance](ctx, l, "/history/balances", f, "balances")
 }
 
-// QueryAccounts gives a page of the accounts that the filter asks for, in the order in which they were
+// QueryAccounts returns a page of the accounts that match the filter, in the order in which they were
 // opened.
 func (l *Ledger) QueryAccounts(ctx context.Context, f QueryFilter) (QueryPage[Account], error) {
 	f.Limit = limitOr1000(f.Limit)
 	return query[Account](ctx, l, "/query/accounts", f.body, "accounts")
 }
 
-// QueryTransfers gives a page of the transfers that the filter asks for, in the order in which they were
+// QueryTransfers returns a page of the transfers that match the filter, in the order in which they were
 // accepted.
 func (l *Ledger) QueryTransfers(ctx context.Context, f QueryFilter) (QueryPage[Transfer], error) {
 	f.Limit = limitOr1000(f.Limit)
 	return query[Transfer](ctx, l, "/query/transfers", f.body, "transfers")
 }
 
-// OpenPending gives a page of the pending transfers that are open, in the order in which they were
-// accepted.
+// OpenPending returns a page of the open pending transfers, in the order in which they were accepted.
 func (l *Ledger) OpenPending(ctx context.Context, f PageFilter) (QueryPage[Hold], error) {
 	f.Limit = limitOr1000(f.Limit)
 	return query[Hold](ctx, l, "/pending/open", f.body, "pending")
 }
 
-// Statement gives all entries of an account, the oldest first, fetched whole: some 100 bytes an entry.
+// Statement returns all entries of an account, oldest first. It fetches some 100 bytes per entry at once.
 func (l *Ledger) Statement(ctx context.Context, account Uint128) ([]Entry, error) {
 	m := message{method: http.MethodGet, path: "/statement/" + account.String()}
 	body, _, err := l.ask(ctx, m)
@@ -165,7 +163,7 @@ func (l *Ledger) Statement(ctx context.Context, account Uint128) ([]Entry, error
 	return entries, nil
 }
 
-// Health tells whether the service serves. It is asked once, and waited for 10 seconds at most.
+// Health reports whether the service serves. It asks once, and waits for at most 10 seconds.
 func (l *Ledger) Health(ctx context.Context) (bool, error) {
 	ctx, cancel := context.WithTimeout(ctx, healthWithin)
 	defer cancel()
@@ -180,7 +178,7 @@ func (l *Ledger) Health(ctx context.Context) (bool, error) {
 	return true, nil
 }
 
-// batch sends a batch, and looks the chains up that were answered as one that was there before.
+// batch sends a batch, and looks up the chains whose results may mean that they existed before.
 func (l *Ledger) batch(ctx context.Context, path string, body []byte, chains []span, exists int,
 	stands func(span) (bool, error)) (Results, error) {
 	m := message{method: http.MethodPost, path: path, body: body, isBatch: true}
@@ -261,7 +259,7 @@ func (l *Ledger) transfersStand(ctx context.Context, chain []Transfer) (bool, er
 	return true, nil
 }
 
-// inParts looks any number of ids up.
+// inParts looks up any number of ids.
 func inParts[T any](ctx context.Context, ids []Uint128,
 	lookUp func(context.Context, []Uint128) (Page[T], error), idOf func(T) Uint128) (map[Uint128]T, error) {
 	found := make(map[Uint128]T)
@@ -282,7 +280,7 @@ func inParts[T any](ctx context.Context, ids []Uint128,
 	return found, nil
 }
 
-// mayBeBooked is the error of a look-up of a chain: the chain may stand.
+// mayBeBooked marks the error of a look-up of a chain: the chain may stand.
 func mayBeBooked(err error) error {
 	if failed, ok := err.(*Error); ok {
 		failed.MayBeBooked = true
@@ -290,7 +288,7 @@ func mayBeBooked(err error) error {
 	return err
 }
 
-// ask gives the body of the reply to a message that was not refused.
+// ask returns the body of the reply to a message that was not refused.
 func (l *Ledger) ask(ctx context.Context, m message) (body []byte, isRepeated bool, err error) {
 	ctx, cancel := context.WithTimeout(ctx, l.deadline)
 	defer cancel()
@@ -317,7 +315,8 @@ func lookUp[T any](ctx context.Context, l *Ledger, path string, ids []Uint128, n
 	return page.Page, err
 }
 
-func history[T any](ctx context.Context, l *Ledger, path string, f AccountFilter, name string) (Page[T], error) {
+func history[T any](ctx context.Context, l *Ledger, path string, f AccountFilter,
+	name string) (Page[T], error) {
 	f.Limit = limitOr1000(f.Limit)
 	if f.Flags&(Debits|Credits) == 0 {
 		f.Flags |= Debits | Credits

@@ -72,7 +72,7 @@ func TestEachGoroutineGetsItsOwnReply(t *testing.T) {
 	}
 }
 
-// silent takes one message and says nothing. It tells how the client leaves.
+// silent reads one message and does not answer. It reports how the client leaves.
 func silent(t *testing.T) (address string, came <-chan struct{}, left <-chan error) {
 	t.Helper()
 	listener, err := net.Listen("tcp", "127.0.0.1:0")

@@ -50,8 +50,8 @@ type Account struct {
 	Timestamp      uint64       `json:"timestamp,string"`
 }
 
-// Balance is what was posted on the credit side less what was on the debit side: what a wallet has. Of
-// an account with its money on the other side, such as a bank's, it is below 0.
+// Balance is the posted credits minus the posted debits: what a wallet holds. A bank's account is usually
+// negative.
 func (a Account) Balance() *big.Int {
 	return new(big.Int).Sub(a.CreditsPosted.Big(), a.DebitsPosted.Big())
 }
@@ -115,7 +115,7 @@ type QueryFilter struct {
 	Code        uint16
 }
 
-// HoldState is what has become of a pending transfer, by the ledger's clock.
+// HoldState is the state of a pending transfer at the ledger's clock.
 type HoldState string
 
 const (
@@ -125,8 +125,8 @@ const (
 	Expired HoldState = "expired"
 )
 
-// Hold is what has become of the pending transfer ID. Due is when it expires (nanoseconds), 0 for never.
-// Timestamp is when it was accepted, on a page of open holds alone.
+// Hold is the state of a pending transfer. Due is when it expires (nanoseconds), 0 for never. Timestamp
+// is when it was accepted; only a page of open holds has it.
 type Hold struct {
 	ID        Uint128   `json:"id"`
 	Due       uint64    `json:"due,string"`
@@ -152,15 +152,15 @@ type Entry struct {
 	Amount     Uint128
 }
 
-// Page is what a request was told: its items, and the ledger's clock (nanoseconds) as it was asked.
+// Page has the items of a reply, and the ledger's clock (nanoseconds) at that time.
 type Page[T any] struct {
 	Clock uint64
 	Items []T
 }
 
-// QueryPage is a page of a query, and the time with which the one behind it is asked for: as
-// TimestampMin, or the newest first as TimestampMax. It is 0 where there is no more. A page may have
-// fewer items than its limit, or none, and another behind it.
+// QueryPage is a page of a query. Next is the TimestampMin of the next page, or with NewestFirst its
+// TimestampMax. It is 0 after the last page. A page may have fewer items than its limit, or none, and
+// still have a next one.
 type QueryPage[T any] struct {
 	Page[T]
 	Next uint64

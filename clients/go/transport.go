@@ -20,43 +20,43 @@ import (
 const (
 	firstPause   = 50 * time.Millisecond
 	longestPause = 2 * time.Second
-	// For so long a connection that is idle is kept. The service lets go of one after 75 seconds.
+	// An idle connection is kept for this long. The service closes it after 75 seconds.
 	maxIdle      = time.Minute
 	dialTimeout  = 10 * time.Second
 	keepAlive    = 3 * time.Second
 	healthWithin = 10 * time.Second
 )
 
-// message is what is sent. isBatch where a lost answer leaves open whether something was booked.
+// message is a request. isBatch: after a lost answer it may be booked.
 type message struct {
 	method, path string
 	body         []byte
 	isBatch      bool
 }
 
-// reply is a final one. isRepeated where an earlier sending of the message may have been done.
+// reply is a final reply. isRepeated: an earlier attempt to send the message may have been executed.
 type reply struct {
 	status     int
 	body       []byte
 	isRepeated bool
 }
 
-// answer is what one sending brought.
+// answer is the reply to one attempt.
 type answer struct {
 	status     int
 	body       []byte
 	retryAfter string
 }
 
-// failure is a sending that brought no final answer. wasSent where it may have come to the service and
-// been done; isStale where a kept connection turned out to be closed, as one may at any time.
+// failure is an attempt without a final answer. wasSent: the service may have executed it. isStale: a kept
+// connection turned out to be closed, as may happen at any time.
 type failure struct {
 	cause            error
 	wasSent, isStale bool
 	retryAfter       time.Duration
 }
 
-// refusal is the name of a refusal, or "" where the answer is none of the ledger's.
+// refusal is the name of the ledger's refusal, or "" if the answer is something else.
 func (a answer) refusal() Refusal {
 	var told struct{ Error Refusal }
 	if a.status == http.StatusOK || json.Unmarshal(a.body, &told) != nil {
@@ -65,7 +65,7 @@ func (a answer) refusal() Refusal {
 	return told.Error
 }
 
-// failure is what an answer says that only tells that there is none now, or nil where it is final.
+// failure is the failure that an answer reports, or nil if the answer is final.
 func (a answer) failure() *failure {
 	name := a.refusal()
 	isNotNow := name == "busy" || name == "too_much"
@@ -78,16 +78,16 @@ func (a answer) failure() *failure {
 	if name == "" {
 		text = "no answer"
 	}
-	// A date, which the service never sends, counts as none.
+	// The service never sends a date, which counts as 0.
 	seconds, _ := strconv.ParseUint(a.retryAfter, 10, 31)
 	return &failure{
 		cause:      fmt.Errorf("%s (%d)", text, a.status),
-		wasSent:    !isNotNow, // Behind busy and too_much nothing was judged, and nothing is booked.
+		wasSent:    !isNotNow, // busy and too_much book nothing.
 		retryAfter: time.Duration(seconds) * time.Second,
 	}
 }
 
-// isProxys tells whether with a status a proxy says that it had no answer, or takes no more for now.
+// isProxys reports whether a proxy uses this status if it got no answer, or accepts no more for now.
 func isProxys(status int) bool {
 	switch status {
 	case http.StatusRequestTimeout, http.StatusTooManyRequests, http.StatusBadGateway,
@@ -97,8 +97,8 @@ func isProxys(status int) bool {
 	return false
 }
 
-// pauseAfter is how long is waited after so many failures: growing, and spread so that clients do not
-// come all at once.
+// pauseAfter returns the pause after a number of failures. Pauses grow, and are random, so that clients do
+// not return all at once.
 func pauseAfter(failures int, last *failure) time.Duration {
 	pause := time.Duration(0)
 	if !last.isStale {
@@ -124,7 +124,7 @@ type transport struct {
 func newTransport(base, key string, connections int, config *tls.Config) *transport {
 	dialer := &net.Dialer{Timeout: dialTimeout, KeepAlive: keepAlive}
 	return &transport{base: base, key: key, client: &http.Client{
-		// A reply of another server is not followed.
+		// A ledger never redirects.
 		CheckRedirect: func(*http.Request, []*http.Request) error { return http.ErrUseLastResponse },
 		Transport: &http.Transport{
 			DialContext: func(ctx context.Context, network, address string) (net.Conn, error) {
@@ -143,8 +143,8 @@ func newTransport(base, key string, connections int, config *tls.Config) *transp
 	}}
 }
 
-// watched is a connection that knows whether an answer is outstanding. Closed then it is reset, so that
-// the service learns that nobody waits.
+// watched is a connection that knows whether an answer is outstanding. Closing it then resets it, so that
+// the service can drop the work.
 type watched struct {
 	net.Conn
 	outstanding atomic.Int32
@@ -157,7 +157,7 @@ func (w *watched) Close() error {
 	return w.Conn.Close()
 }
 
-// watchedIn is the connection below TLS, if there is any.
+// watchedIn returns the connection below TLS, if there is one.
 func watchedIn(connection net.Conn) *watched {
 	if secured, ok := connection.(*tls.Conn); ok {
 		connection = secured.NetConn()
@@ -166,9 +166,9 @@ func watchedIn(connection net.Conn) *watched {
 	return found
 }
 
-// ask gives the final reply to a message. It is sent again, the same bytes, where its answer is not known
-// or the service refused it for now. The ledger allows that for every message: ids that are there are not
-// booked again.
+// ask returns the final reply to a message. It resends the same bytes if the answer is not known, or if the
+// service refused the message for now. The ledger allows that for every message: it never books an id
+// twice.
 func (t *transport) ask(ctx context.Context, m message) (reply, error) {
 	wasSent := false
 	for failures := 1; ; failures++ {
@@ -190,7 +190,7 @@ func (t *transport) ask(ctx context.Context, m message) (reply, error) {
 	}
 }
 
-// askOnce gives the answer to one sending.
+// askOnce returns the answer to one attempt.
 func (t *transport) askOnce(ctx context.Context, m message) (answer, error) {
 	got, failed := t.send(ctx, m)
 	if failed != nil {
@@ -199,7 +199,7 @@ func (t *transport) askOnce(ctx context.Context, m message) (answer, error) {
 	return got, nil
 }
 
-// wait waits, or says at once that the context will have ended before.
+// wait pauses, or fails at once if the context ends before the pause does.
 func wait(ctx context.Context, pause time.Duration) error {
 	if until, ok := ctx.Deadline(); ok && time.Until(until) <= pause {
 		if err := ctx.Err(); err != nil {
@@ -256,7 +256,7 @@ func (t *transport) exchange(ctx context.Context, m message) (answer, error) {
 	}
 	defer response.Body.Close()
 	if response.ContentLength < 0 && len(response.TransferEncoding) == 0 {
-		return answer{}, io.ErrUnexpectedEOF // A head that was cut reads like one without a length.
+		return answer{}, io.ErrUnexpectedEOF // A head that was cut looks like one without a length.
 	}
 	read, err := io.ReadAll(response.Body)
 	if err != nil {

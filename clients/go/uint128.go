@@ -38,7 +38,7 @@ func ParseUint128(text string) (Uint128, error) {
 	return n, nil
 }
 
-// IsZero tells whether the number is 0.
+// IsZero reports whether the number is 0.
 func (n Uint128) IsZero() bool { return n == Uint128{} }
 
 // Cmp is -1, 0 or 1 where n is below, equal to or above other.

@@ -131,13 +131,13 @@ func (f QueryFilter) body() ([]byte, error) {
 	return []byte(o.json()), checkLimit(f.Limit)
 }
 
-// told is the body of any reply to a batch, a look-up, a history or a query.
+// told is the body of a reply to a batch, a look-up, a history or a query.
 type told[T any] struct {
 	clock, next uint64
 	items       []T
 }
 
-// read reads the list with that name, the clock, and the next time where there has to be one.
+// read reads the clock, the list with the given name, and the next time if there has to be one.
 func read[T any](body []byte, name string, hasNext bool) (told[T], error) {
 	var fields map[string]json.RawMessage
 	if err := json.Unmarshal(body, &fields); err != nil {

@@ -1,10 +1,10 @@
-"""Tries the clients whose languages this machine has: their own tests with clients/cases.json, a minute
-in which the service is killed under each, and the same wallet by each.
+"""Tests the clients whose languages are installed: each client's own tests with clients/cases.json, the
+wallet example, and a minute of work while the service is killed.
 
     python3 clients/harness/all.py LEDGERD [--seconds N] [CLIENT..]
 
-CLIENT is python, typescript or go. What is lacking is named first. It ends with 1 where something failed,
-or no client could be tried."""
+CLIENT is python, typescript or go. It names missing languages first. It exits with 1 if a test failed,
+or if no client could be tested."""
 
 import argparse
 import os
@@ -26,7 +26,7 @@ PATIENCE = 1200
 
 
 class Client:
-    """What is called, by the calls that it needs, for a client."""
+    """The commands that test a client, and the programs that they need."""
 
     def __init__(self, name, calls, tests, drivers, wallet, folder=TOP):
         self.name, self.calls, self.tests, self.drivers = name, calls, tests, drivers
@@ -37,7 +37,7 @@ class Client:
 
 
 def clients(room):
-    """The three, with what they build in a folder of its own."""
+    """The three clients. What they build goes to the folder `room`."""
     python = [sys.executable]
     driver = [*python, str(CLIENTS / "python/tests/driver.py")]
     node = ["node", str(CLIENTS / "typescript/harness/driver.mjs")]
@@ -55,32 +55,32 @@ def clients(room):
     ]
 
 
-def told(words):
-    """A command in one line: paths of the repository from its folder on, others by their names."""
+def in_one_line(words):
+    """A command in one line, with short paths."""
     return " ".join(each.replace(f"{TOP}/", "") if each.startswith(f"{TOP}/")
                     else os.path.basename(each) if os.path.isabs(each) else each for each in words)
 
 
 def run(name, words, folder=TOP, env=None, wanted=None):
-    """Whether a command ends well, with the output that is wanted. It is told in one line."""
+    """Whether a command succeeds, with the wanted output. It prints one line about it."""
     begun = time.monotonic()
     try:
         done = subprocess.run(words, cwd=folder, text=True, timeout=PATIENCE, stdout=subprocess.PIPE,
                               stderr=subprocess.STDOUT, env={**os.environ, **(env or {})})
         output, holds = done.stdout, done.returncode == 0 and wanted in (None, done.stdout)
     except subprocess.TimeoutExpired as error:
-        output, holds = f"not done after {error.timeout} s\n", False
+        output, holds = f"no end after {error.timeout} s\n", False
     word = "ok" if holds else "FAILED"
-    print(f"{name}: {told(words)}: {word}, {time.monotonic() - begun:.0f} s", flush=True)
+    print(f"{name}: {in_one_line(words)}: {word}, {time.monotonic() - begun:.0f} s", flush=True)
     if not holds:
         print(output[-4000:], flush=True)
     return holds
 
 
 def compiled(room):
-    """Whether the compiler takes the sources for TypeScript, and what it makes of them is in `dist`."""
+    """Whether the TypeScript sources compile to what is in `dist`."""
     if not shutil.which("tsc"):
-        print("typescript: tsc is lacking: the types are not checked, nor that dist is of src")
+        print("typescript: tsc is missing, so neither the types nor dist are checked")
         return True
     folder = str(CLIENTS / "typescript")
     return (run("typescript", ["tsc", "-p", folder, "--outDir", f"{room}/dist"])
@@ -89,7 +89,7 @@ def compiled(room):
 
 
 def try_one(client, program, seconds, room):
-    """Whether all holds of a client."""
+    """Whether a client passes all its tests."""
     holds = [compiled(room)] if client.name == "typescript" else []
     env = {"LEDGERD": program, "PYTHONPATH": str(CLIENTS / "python")}
     holds += [run(client.name, words, client.folder, env) for words in client.tests]
@@ -102,7 +102,7 @@ def try_one(client, program, seconds, room):
 
 
 def misfits_of_pages():
-    """Where docs/CLIENTS.md shows other programs than those that are run, and where versions differ."""
+    """Programs that docs/CLIENTS.md does not show as they are, and versions that differ."""
     page, version = (TOP / "docs/CLIENTS.md").read_text(), (TOP / "VERSION").read_text().strip()
     for path in ("python/examples/wallet.py", "typescript/examples/wallet.mjs",
                  "go/examples/wallet/main.go"):
@@ -129,11 +129,11 @@ def main():
         there = [each for each in chosen if not each.lacks()]
         for each in chosen:
             if each.lacks():
-                print(f"{each.name}: {', '.join(each.lacks())} is lacking: this client is not tried")
+                print(f"{each.name}: {', '.join(each.lacks())} is missing, so this client is not tested")
         misfits = list(misfits_of_pages())
         print(*misfits, sep="\n", end="\n" if misfits else "")
         holds = [try_one(each, program, words.seconds, room) for each in there]
-    print(f"clients: {sum(holds)} of {len(there)} hold, {len(chosen) - len(there)} not tried")
+    print(f"clients: {sum(holds)} of {len(there)} passed, {len(chosen) - len(there)} not tested")
     sys.exit(0 if holds and all(holds) and not misfits else 1)
 
 

@@ -2,8 +2,8 @@
 
     python3 clients/harness/cases.py [--only WORDS] [--gives-up reset|end] -- COMMAND..
 
-COMMAND is the client's driver (`driver.py`). Each case that fails is told, with what did not fit; the
-last line has their number."""
+COMMAND is the client's driver (`driver.py`). It prints each case that fails, with the reasons; the last
+line counts the cases."""
 
 import argparse
 import collections
@@ -42,7 +42,7 @@ def result_numbers():
 
 
 def with_value(value, each):
-    """JSON with what stands for `$each`, or for a place of it, filled in."""
+    """JSON in which `$each`, or an element of it, is filled in."""
     if isinstance(value, str) and value.startswith("$each"):
         place = value.partition(".")[2]
         return each[int(place)] if place else each
@@ -54,7 +54,7 @@ def with_value(value, each):
 
 
 class Book:
-    """What cases name: records, refusals, results."""
+    """The records, refusals and results that cases name."""
 
     def __init__(self, told):
         self.records, self.refusals = told["records"], told["refusals"]
@@ -112,7 +112,7 @@ class Book:
 
 
 def misfit_of_answer(book, wanted, given):
-    """What an answer has that the case has not, or None."""
+    """How an answer differs from the case's, or None."""
     outcomes = [each.get("outcome") for each in given.get("results", [])]
     derived = {
         "outcomes": lambda: outcomes,
@@ -189,7 +189,7 @@ class Run:
 
 
 class Lanes:
-    """Threads with a driver each, which goes on from case to case."""
+    """Threads with one driver each, which runs case after case."""
 
     def __init__(self, words):
         self.words, self.mine, self.all = words, threading.local(), []
@@ -213,7 +213,7 @@ class Lanes:
 
 def main():
     asked = argparse.ArgumentParser(description=__doc__.splitlines()[0])
-    asked.add_argument("--only", default="", help="cases whose names have these words")
+    asked.add_argument("--only", default="", help="run the cases whose names contain this")
     asked.add_argument("--gives-up", default=RESET, help="how a connection is given up")
     asked.add_argument("command", nargs="+")
     words = asked.parse_args()

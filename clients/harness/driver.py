@@ -1,7 +1,7 @@
-"""A client as a process: it reads a call a line, and writes what the call gave.
+"""A client as a process: it reads one call per line, and writes its result.
 
-A line in is `{"open":{"url":..,"key":..,"deadline":..}}`, which makes a client that the calls behind
-it use, or `{"call":NAME, ..}` with the arguments of a case. A line out has what `clients/cases.json`
+A line in is `{"open":{"url":..,"key":..,"deadline":..}}`, which makes a client for the calls that
+follow, or `{"call":NAME, ..}` with the arguments of a case. A line out has what `clients/cases.json`
 calls `answer`, or `{"error":{..}}`."""
 
 import json
@@ -15,7 +15,7 @@ class Driver:
                                         text=True, bufsize=1)
 
     def ask(self, **asked):
-        """What the client answers to one line."""
+        """The client's answer to one line."""
         self.process.stdin.write(json.dumps(asked) + "\n")
         self.process.stdin.flush()
         line = self.process.stdout.readline()

@@ -1,10 +1,10 @@
-"""A client at work while the service is killed and started again: nothing that was answered may be
-lost, nothing may be booked twice, and each chain stands whole or not at all.
+"""Tests a client while the service is killed and restarted: nothing answered may be lost, nothing may be
+booked twice, and each chain stands whole or not at all.
 
     python3 clients/harness/kills.py LEDGERD [--seconds N] [--seed N] -- COMMAND..
 
-COMMAND is the client's driver (`driver.py`), of which five run at once: four send batches, one
-follows the ledger. What is drawn follows from the seed; when a kill comes, does not."""
+COMMAND is the client's driver (`driver.py`). Five drivers run at once: four send batches, and one follows
+the ledger. The seed determines the batches, but not when a kill comes."""
 
 import argparse
 import collections
@@ -25,7 +25,7 @@ DESKS, MAX_128 = 4, str(2**128 - 1)
 
 
 class Desk(threading.Thread):
-    """Sends one batch after the other until each is answered, and notes what it was told."""
+    """Sends batch after batch, each until it is answered, and records the answers."""
 
     def __init__(self, words, url, seed, until):
         super().__init__(daemon=True)
@@ -62,7 +62,7 @@ class Desk(threading.Thread):
         if is_new and outcome == "existed":
             raise AssertionError(f"a new id exists: {event}")
         if self.stands.setdefault(event["id"], stands) != stands:
-            raise AssertionError(f"{event} was told {not stands}, and then {result}")
+            raise AssertionError(f"{event} stood: {not stands}, and then {result}")
         self.sent[event["id"]] = event
         self.outcomes[outcome] += 1
         if stands and event.get("flags", 0) & PENDING:
@@ -94,7 +94,7 @@ class Desk(threading.Thread):
 
 
 class Follower(threading.Thread):
-    """Follows the ledger, and has each accepted transfer once."""
+    """Follows the ledger, and records each accepted transfer."""
 
     def __init__(self, words, url, until):
         super().__init__(daemon=True)
@@ -154,7 +154,7 @@ def balances(standing):
 
 
 def storm(service, words, seed, seconds):
-    """Desks at work, and kills between."""
+    """Runs the desks, and kills the service meanwhile."""
     until, drawn = time.monotonic() + seconds, random.Random(seed)
     desks = [Desk(words, service.url, drawn.random(), until) for _ in range(DESKS)]
     follower = Follower(words, service.url, until)
@@ -176,7 +176,7 @@ def storm(service, words, seed, seconds):
 
 
 def compare(service, words, desks, follower):
-    """What is there, beside what was told."""
+    """Compares the ledger with the answers."""
     sent = {number: event for desk in desks for number, event in desk.sent.items()}
     stands = {number: it for desk in desks for number, it in desk.stands.items()}
     standing = {number: event for number, event in sent.items() if stands[number]}
@@ -188,7 +188,7 @@ def compare(service, words, desks, follower):
         for first in range(0, len(numbers), 1000):
             page = driver.ask(call="lookup_transfers", ids=numbers[first:first + 1000])
             found |= {each["id"] for each in page["items"]}
-        must(found == set(standing), "what is there is not what was told to stand: "
+        must(found == set(standing), "the ledger differs from the answers: "
              f"{len(set(standing) - found)} lost, {len(found - set(standing))} refused and there")
         wanted = balances(standing)
         for each in driver.ask(call="lookup_accounts", ids=[BANK, *WALLETS])["items"]:
@@ -198,7 +198,7 @@ def compare(service, words, desks, follower):
         follower.take()
         listed = driver.ask(call="iter_transfers", asked={"limit": 999})["items"]
         must(follower.had == [each["id"] for each in listed], "the follower had something else")
-        must(set(follower.had) == set(standing), "a transfer that nobody sent")
+        must(set(follower.had) == set(standing), "a transfer that no desk sent")
     follower.driver.close()
     service.kill()
     must(service.check() == "ok", "the audit of the file")

@@ -1,4 +1,4 @@
-"""The service over a file of its own, which may be killed."""
+"""A service with a file of its own, which tests may kill."""
 
 import os
 import socket
@@ -45,7 +45,7 @@ class Service:
                 time.sleep(0.01)
 
     def kill(self):
-        """Ends it as a crash does."""
+        """Ends it like a crash."""
         if self.process:
             self.process.kill()
             self.process.wait()

@@ -1,4 +1,4 @@
-"""A server that plays the exchanges of a case, and notes what does not fit them."""
+"""A server that plays the exchanges of a case, and records how the client deviates."""
 
 import json
 import re
@@ -9,7 +9,7 @@ import time
 from http import HTTPStatus
 
 GREATEST_WAIT = 60
-# With this a socket is closed by a reset.
+# With this option, closing a socket resets its connection.
 LINGER_0 = struct.pack("ii", 1, 0)
 RESET, END = "reset", "end"
 
@@ -35,8 +35,8 @@ def reply_bytes(reply):
 
 
 def read_message(connection):
-    """The next message, whole, or None where the connection ends before it. `ValueError` where its
-    body states no length."""
+    """The next whole message, or None if the connection ends first. `ValueError` if its body states
+    no length."""
     read = b""
     while True:
         head, blank, body = read.partition(b"\r\n\r\n")
@@ -58,7 +58,7 @@ def length_in(head):
 
 
 def without_zeros(value):
-    """JSON in which the fields that are 0 are left out, which means the same."""
+    """JSON without the fields that are 0, which means the same."""
     if isinstance(value, list):
         return [without_zeros(each) for each in value]
     if isinstance(value, dict):
@@ -92,13 +92,13 @@ class Stage:
             self.exchanges, self.played = list(exchanges), 0
 
     def left(self):
-        """What does not fit: the exchanges that did not come to their turn, too."""
+        """All deviations, including exchanges that did not happen."""
         with self.lock:
             misfits = list(self.misfits)
             for exchange in self.exchanges:
                 least = exchange.get("again")
                 if least is None:
-                    misfits.append(f"a message is lacking: {compact(exchange)[:120].decode()}")
+                    misfits.append(f"missing message: {compact(exchange)[:120].decode()}")
                 elif self.played < least:
                     misfits.append(f"{self.played} messages, not {least}")
             return misfits
@@ -153,7 +153,7 @@ class Stage:
             return exchange
 
     def compare(self, message, place, waited, exchange):
-        """Notes where a message is not the one that the exchange has."""
+        """Records how a message differs from the exchange's."""
         head, _, body = message.partition(b"\r\n\r\n")
         lines = head.decode("latin-1").split("\r\n")
         keys = [line.partition(":")[2].strip() for line in lines
@@ -178,7 +178,7 @@ class Stage:
             self.misfits.append(f"on connection {place}, not {exchange['connection']}")
 
     def act(self, connection, exchange):
-        """Does with a message what the exchange says. Whether the connection goes on."""
+        """Does what the exchange says. Returns whether the connection stays open."""
         if exchange.get("silent"):
             self.given_up.append(how_it_ends(connection))
             return False
@@ -201,7 +201,7 @@ class Stage:
 
 
 def how_it_ends(connection):
-    """How the client leaves a connection on which nothing comes."""
+    """How the client leaves a silent connection."""
     connection.settimeout(GREATEST_WAIT)
     try:
         while connection.recv(65536):

@@ -1,5 +1,5 @@
-"""Makes the wheel of this package with the standard library alone (PEP 517, PEP 427), so that
-`pip install clients/python` needs no index.
+"""Builds the wheel of this package with the standard library alone (PEP 517, PEP 427), so that
+`pip install ./clients/python` needs no index.
 
     python3 clients/python/build_wheel.py FOLDER
 """
@@ -13,7 +13,7 @@ import zipfile
 
 HERE = pathlib.Path(__file__).resolve().parent
 PACKAGE, SUMMARY = "cegarront", "A client for ledgerd, a proved double-entry ledger"
-# The same bytes come of the same sources.
+# The same sources give the same bytes.
 BEGINNING_OF_ZIP = (1980, 1, 1, 0, 0, 0)
 
 
@@ -30,7 +30,7 @@ def metadata():
 
 
 def contents():
-    """The files of the wheel by their names in it, but for the record of them."""
+    """The files of the wheel by name, except RECORD."""
     sources = sorted((HERE / PACKAGE).glob("*"))
     files = {f"{PACKAGE}/{each.name}": each.read_bytes() for each in sources if each.is_file()}
     info = f"{PACKAGE}-{version()}.dist-info"
@@ -45,7 +45,7 @@ def digest(content):
 
 
 def build_wheel(wheel_directory, config_settings=None, metadata_directory=None):
-    """Writes the wheel, and answers its name. The words are those of PEP 517."""
+    """Writes the wheel, and returns its name. PEP 517 fixes the parameters."""
     info, files = contents()
     record = "".join(f"{name},sha256={digest(each)},{len(each)}\n" for name, each in files.items())
     files[f"{info}/RECORD"] = (record + f"{info}/RECORD,,\n").encode()

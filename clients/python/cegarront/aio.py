@@ -36,8 +36,8 @@ Dated = TypeVar("Dated", Transfer, Balance)
 class AsyncLedger:
     """A tenant's ledger, as `Ledger` has it, for the tasks of one event loop.
 
-    A call that is cancelled gives its connection up, and like any call without an answer it leaves
-    open whether its batch is booked.
+    Cancelling a call resets its connection. As after any call without an answer, its batch may be
+    booked all the same.
     """
 
     def __init__(
@@ -84,11 +84,11 @@ class AsyncLedger:
         return await self._run(calls.create_transfers(transfers))
 
     async def lookup_accounts(self, ids: Iterable[int]) -> Page[Account]:
-        """The accounts with these ids that are there, in the order asked."""
+        """The accounts that exist among these ids, in the order asked."""
         return await self._run(calls.lookup_accounts(ids))
 
     async def lookup_transfers(self, ids: Iterable[int]) -> Page[Transfer]:
-        """The transfers with these ids that are there, in the order asked."""
+        """The transfers that exist among these ids, in the order asked."""
         return await self._run(calls.lookup_transfers(ids))
 
     async def get_account_transfers(self, asked: AccountFilter) -> Page[Transfer]:
@@ -108,7 +108,7 @@ class AsyncLedger:
         return await self._run(calls.query_transfers(asked))
 
     async def lookup_pending(self, ids: Iterable[int]) -> Page[Hold]:
-        """What has become of the pending transfers with these ids."""
+        """The state of the pending transfers with these ids."""
         return await self._run(calls.lookup_pending(ids))
 
     async def open_pending(self, asked: PageFilter = PageFilter()) -> QueryPage[OpenHold]:
@@ -138,11 +138,11 @@ class AsyncLedger:
     async def follow(
         self, number: int = 0, limit: int = MAX_EVENTS
     ) -> AsyncIterator[Tuple[Tuple[Transfer, ...], int]]:
-        """The transfers that were accepted since `number` was told, as `Ledger.follow` gives them:
-        each page with the number to keep together with what was done."""
+        """The transfers accepted since `number`, as `Ledger.follow` returns them: each page with
+        the number to store together with your own work."""
         while True:
             page = await self.query_transfers(QueryFilter(timestamp_min=number, limit=limit))
-            later = calls.number_behind(number, page)
+            later = calls.number_after(number, page)
             if later > number:
                 yield page.items, later
             if page.next == 0:
@@ -158,7 +158,7 @@ class AsyncLedger:
         return calls.serves(await self._transport.ask_once(calls.HEALTH))
 
     async def _run(self, call: calls.Call[R]) -> R:
-        """Carries the messages of a call, all of them within one deadline."""
+        """Sends the messages of a call, all of them within one deadline."""
         until = self._transport.deadline()
         try:
             message = next(call)
@@ -177,20 +177,20 @@ class AsyncLedger:
 async def _all_of(
     asked: Optional[AccountFilter], page_of: Callable[[AccountFilter], Awaitable[Page[Dated]]]
 ) -> AsyncIterator[Dated]:
-    """The items of a page, and of those behind it."""
+    """The items of a page, and of those after it."""
     while asked is not None:
         page = await page_of(asked)
         for each in page:
             yield each
-        asked = calls.behind(asked, page)
+        asked = calls.next_page(asked, page)
 
 
 async def _all_pages(
     asked: Optional[Asked], page_of: Callable[[Asked], Awaitable[QueryPage[R]]]
 ) -> AsyncIterator[R]:
-    """The items of a page, and of all pages behind it."""
+    """The items of a page, and of all pages after it."""
     while asked is not None:
         page = await page_of(asked)
         for each in page:
             yield each
-        asked = calls.behind_query(asked, page)
+        asked = calls.next_query(asked, page)

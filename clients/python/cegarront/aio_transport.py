@@ -1,4 +1,4 @@
-"""Messages and their replies, for programs on asyncio."""
+"""The transport for asyncio: kept connections, messages and their replies."""
 
 from __future__ import annotations
 
@@ -9,13 +9,13 @@ import ssl
 import time
 from typing import Iterable, List, Optional, SupportsIndex
 
-from .blocking import abandon, told, watch
+from .blocking import abandon, in_one_line, watch
 from .errors import Unanswered
 from .transport import Address, Answer, Attempts, Message, NoAnswer, NoTime, Reply, left_until
 
 
 class _Reader(asyncio.StreamReader):
-    """What comes on a connection, and whether all of it was read and more may come."""
+    """The bytes that arrive on a connection. It is quiet if all were read and more may come."""
 
     _unread, _has_ended = 0, False
 
@@ -48,7 +48,7 @@ class _Reader(asyncio.StreamReader):
 
 
 class Connection:
-    """One connection, on which a message is answered at a time."""
+    """One connection, which handles one message at a time."""
 
     def __init__(self, reader: _Reader, writer: asyncio.StreamWriter) -> None:
         self._reader, self._writer = reader, writer
@@ -68,7 +68,7 @@ class Connection:
 
     @property
     def is_quiet(self) -> bool:
-        """Whether nothing has come since the last reply: neither the end, nor bytes of no reply."""
+        """Whether nothing arrived since the last reply: neither the end nor stray bytes."""
         return self._reader.is_quiet
 
     def watch(self, seconds: float) -> None:
@@ -107,7 +107,7 @@ class Connection:
         self._writer.close()
 
     def give_up(self) -> None:
-        """Ends a connection on which an answer may be outstanding, by a reset."""
+        """Resets a connection with an outstanding answer."""
         abandon(self._writer.get_extra_info("socket"))
         self._writer.transport.abort()
 
@@ -128,7 +128,7 @@ class AsyncTransport:
         self._address, self._key, self._context = address, key, context
         self._timeout, self._deadline, self._max_idle = timeout, deadline, max_idle
         self._connections = connections
-        # Made with the first message, since it belongs to the event loop of then.
+        # Made with the first message, since it belongs to the event loop that runs then.
         self._slots: Optional[asyncio.Semaphore] = None
         self._idle: List[Connection] = []
 
@@ -137,22 +137,22 @@ class AsyncTransport:
         return time.monotonic() + self._deadline
 
     async def ask(self, message: Message, until: float) -> Reply:
-        """The final reply to a message. `Unanswered` where none came in time."""
+        """The final reply to a message. `Unanswered` if none came in time."""
         attempts = Attempts(message, until)
         while True:
             try:
                 answer = await self._send(message, until, attempts.is_first)
             except NoAnswer as failure:
-                pause = attempts.pause_behind(failure)
+                pause = attempts.pause_after(failure)
             else:
                 reply = attempts.final(answer)
                 if reply is not None:
                     return reply
-                pause = attempts.pause_behind(answer.as_failure())
+                pause = attempts.pause_after(answer.as_failure())
             await asyncio.sleep(pause)
 
     async def ask_once(self, message: Message) -> Answer:
-        """The answer to one sending, on a connection of its own, within `timeout` seconds."""
+        """The answer to one attempt, on a connection of its own, within `timeout` seconds."""
         until = time.monotonic() + min(self._timeout, self._deadline)
         try:
             return await self._send(message, until, is_first=False)
@@ -166,7 +166,7 @@ class AsyncTransport:
             connection.close()
 
     async def _send(self, message: Message, until: float, is_first: bool) -> Answer:
-        """Sends a message once. A second sending takes no kept connection."""
+        """Sends a message once. A second attempt uses no kept connection."""
         if self._slots is None:
             self._slots = asyncio.Semaphore(self._connections)
         left = left_until(until)
@@ -184,7 +184,7 @@ class AsyncTransport:
     async def _exchange(
         self, connection: Connection, message: Message, until: float, is_kept: bool
     ) -> Answer:
-        """The answer to a message, which is waited for until the deadline."""
+        """The answer to a message. It waits until the deadline."""
         try:
             left = left_until(until)
             answer = await asyncio.wait_for(connection.exchange(self._bytes_of(message)), left)
@@ -193,7 +193,7 @@ class AsyncTransport:
             raise NoAnswer("no answer before the deadline", was_sent=True) from error
         except (OSError, EOFError, ValueError, http.client.HTTPException) as error:
             connection.give_up()
-            raise NoAnswer(told(error), was_sent=True, is_stale=is_kept) from error
+            raise NoAnswer(in_one_line(error), was_sent=True, is_stale=is_kept) from error
         except BaseException:
             connection.give_up()
             raise
@@ -214,7 +214,7 @@ class AsyncTransport:
         except ssl.SSLCertVerificationError:
             raise
         except (OSError, asyncio.TimeoutError) as error:
-            raise NoAnswer(told(error), was_sent=False) from error
+            raise NoAnswer(in_one_line(error), was_sent=False) from error
         return connection
 
     def _kept(self) -> Optional[Connection]:

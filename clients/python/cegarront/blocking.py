@@ -1,7 +1,7 @@
-"""Messages and their replies: kept connections, over which threads send.
+"""The transport for threads: kept connections, messages and their replies.
 
-An answer is waited for until the call's deadline, for as long as the connection stands. `transport`
-has the rule by which a message is sent again.
+A call waits for an answer until its deadline, as long as the connection stands. `transport` has the
+rule for resending.
 """
 
 from __future__ import annotations
@@ -20,7 +20,7 @@ from .errors import Unanswered
 from .transport import Address, Answer, Attempts, Message, NoAnswer, NoTime, Reply, left_until
 
 _PIECE = 65536
-# Closing a socket resets its connection then, and drops what is still to be sent.
+# With this option, closing a socket resets its connection and drops unsent bytes.
 _LINGER_0 = struct.pack("hh" if os.name == "nt" else "ii", 1, 0)
 
 
@@ -49,23 +49,23 @@ class Transport:
         return time.monotonic() + self._deadline
 
     def ask(self, message: Message, until: float) -> Reply:
-        """The final reply to a message. `Unanswered` where none came in time."""
+        """The final reply to a message. `Unanswered` if none came in time."""
         attempts = Attempts(message, until)
         while True:
             try:
                 answer = self._send(message, until, attempts.is_first)
             except NoAnswer as failure:
-                pause = attempts.pause_behind(failure)
+                pause = attempts.pause_after(failure)
             else:
                 reply = attempts.final(answer)
                 if reply is not None:
                     return reply
-                pause = attempts.pause_behind(answer.as_failure())
+                pause = attempts.pause_after(answer.as_failure())
             time.sleep(pause)
 
     def ask_once(self, message: Message) -> Answer:
-        """The answer to one sending, on a connection of its own, within `timeout` seconds.
-        `Unanswered` where none came."""
+        """The answer to one attempt, on a connection of its own, within `timeout` seconds.
+        `Unanswered` if none came."""
         until = time.monotonic() + min(self._timeout, self._deadline)
         try:
             return self._send(message, until, is_first=False)
@@ -80,7 +80,7 @@ class Transport:
             connection.close()
 
     def _send(self, message: Message, until: float, is_first: bool) -> Answer:
-        """Sends a message once. A second sending takes no kept connection."""
+        """Sends a message once. A second attempt uses no kept connection."""
         if not self._slots.acquire(timeout=max(0.0, until - time.monotonic())):
             raise NoTime("all connections were busy")
         try:
@@ -91,7 +91,7 @@ class Transport:
             except (OSError, http.client.HTTPException) as error:
                 give_up(connection)
                 is_stale = kept is not None and not isinstance(error, socket.timeout)
-                raise NoAnswer(told(error), was_sent=True, is_stale=is_stale) from error
+                raise NoAnswer(in_one_line(error), was_sent=True, is_stale=is_stale) from error
             except BaseException:
                 give_up(connection)
                 raise
@@ -103,7 +103,7 @@ class Transport:
     def _exchange(
         self, connection: http.client.HTTPConnection, message: Message, until: float
     ) -> Answer:
-        """The answer to a message, which is waited for until the deadline."""
+        """The answer to a message. It waits until the deadline."""
         connection.sock.settimeout(left_until(until))
         path = self._address.path + message.path
         connection.putrequest(message.method, path, skip_accept_encoding=True)
@@ -112,8 +112,8 @@ class Transport:
         connection.putheader("x-ledger-key", self._key)
         connection.endheaders(message.body)
         with connection.getresponse() as response:
-            # A head that was cut reads like one that ends there, without a length. Of a body that
-            # was cut, or has no last chunk, `read` makes an `IncompleteRead` by itself.
+            # A head that was cut looks like one without a length. A body that was cut, or lacks its
+            # last chunk, raises `IncompleteRead` by itself.
             if response.length is None and not response.chunked:
                 raise http.client.IncompleteRead(b"")
             body = body_of(response, connection.sock, until)
@@ -138,7 +138,7 @@ class Transport:
             raise
         except OSError as error:
             connection.close()
-            raise NoAnswer(told(error), was_sent=False) from error
+            raise NoAnswer(in_one_line(error), was_sent=False) from error
         return connection
 
     def _kept(self) -> Optional[http.client.HTTPConnection]:
@@ -162,7 +162,7 @@ class Transport:
 
 
 def body_of(response: http.client.HTTPResponse, sock: socket.socket, until: float) -> bytes:
-    """The body of a reply, however slowly it comes, but no later than the deadline."""
+    """The body of a reply, however slowly it comes, but not after the deadline."""
     parts, lacking = [], response.length
     while lacking != 0:
         left = until - time.monotonic()
@@ -181,14 +181,13 @@ def body_of(response: http.client.HTTPResponse, sock: socket.socket, until: floa
 
 
 def give_up(connection: http.client.HTTPConnection) -> None:
-    """Ends a connection on which an answer may be outstanding, by a reset: so the service learns
-    that nobody waits for it."""
+    """Resets a connection with an outstanding answer, so that the service can drop the work."""
     abandon(connection.sock)
     connection.close()
 
 
 def abandon(sock: Optional[socket.socket]) -> None:
-    """Has a socket reset its connection as it is closed."""
+    """Makes closing this socket reset its connection."""
     try:
         if sock is not None:
             sock.setsockopt(socket.SOL_SOCKET, socket.SO_LINGER, _LINGER_0)
@@ -197,8 +196,8 @@ def abandon(sock: Optional[socket.socket]) -> None:
 
 
 def watch(sock: socket.socket, seconds: float) -> None:
-    """Has the system notice, in some `seconds`, that the other end is gone without a word: a
-    machine that was switched off, or a network that was cut."""
+    """Makes the system notice a vanished peer after about `seconds`: a machine that lost power, or
+    a network that was cut."""
     sock.setsockopt(socket.SOL_SOCKET, socket.SO_KEEPALIVE, 1)
     wanted = {
         "TCP_KEEPIDLE": seconds / 2,
@@ -219,6 +218,6 @@ def is_quiet(connection: http.client.HTTPConnection) -> bool:
         return not selector.select(0)
 
 
-def told(error: BaseException) -> str:
+def in_one_line(error: BaseException) -> str:
     """An error in one line."""
     return f"{type(error).__name__}: {error}" if str(error) else type(error).__name__

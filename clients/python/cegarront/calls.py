@@ -1,7 +1,7 @@
-"""What each call asks and what it makes of the replies, whatever carries the messages.
+"""What each call sends, and how it reads the replies, independent of the transport.
 
-A call is a generator: it gives the messages that it needs, one after the other, and is sent the
-reply to each; what it returns is the call's answer. `Ledger` and `AsyncLedger` carry them.
+A call is a generator. It yields the messages that it needs, one after the other, receives the reply
+to each, and returns the call's answer. `Ledger` and `AsyncLedger` send the messages.
 """
 
 from __future__ import annotations
@@ -102,12 +102,12 @@ def serves(answer: Answer) -> bool:
     if not answer.is_final():
         return False
     if answer.status != 200 or not wire.is_serving(answer.body):
-        raise BadReply(f"{HEALTH.path}: status {answer.status}, and not what is told of health")
+        raise BadReply(f"{HEALTH.path}: status {answer.status}, and no reply about health")
     return True
 
 
-def behind(asked: AccountFilter, page: Page[Dated]) -> Optional[AccountFilter]:
-    """With what the page behind this one of an account is asked for, or None behind the last."""
+def next_page(asked: AccountFilter, page: Page[Dated]) -> Optional[AccountFilter]:
+    """The filter for the page after this one of an account, or None after the last."""
     if len(page) < asked.limit:
         return None
     last = page[-1].timestamp
@@ -117,8 +117,8 @@ def behind(asked: AccountFilter, page: Page[Dated]) -> Optional[AccountFilter]:
     return replace(asked, timestamp_max=last - 1) if last > 1 else None
 
 
-def behind_query(asked: Asked, page: QueryPage[R]) -> Optional[Asked]:
-    """With what the page behind this one of a query is asked for, or None behind the last."""
+def next_query(asked: Asked, page: QueryPage[R]) -> Optional[Asked]:
+    """The filter for the page after this one of a query, or None after the last."""
     if page.next == 0:
         return None
     if asked.flags & QueryFlag.NEWEST_FIRST:
@@ -126,11 +126,11 @@ def behind_query(asked: Asked, page: QueryPage[R]) -> Optional[Asked]:
     return replace(asked, timestamp_min=page.next)
 
 
-def number_behind(number: int, page: QueryPage[Transfer]) -> int:
-    """The number with which a follower goes on behind a page."""
+def number_after(number: int, page: QueryPage[Transfer]) -> int:
+    """The number with which a follower continues after a page."""
     later = page.next or page.clock + 1
     if later < number:
-        raise LedgerError(f"the clock {page.clock} is behind {number}: an older ledger")
+        raise LedgerError(f"the clock {page.clock} is before {number}: an older ledger")
     return later
 
 
@@ -157,14 +157,14 @@ def _batch(
 
 
 def _accounts_stand(chain: Sequence[Account]) -> Call[bool]:
-    """Whether a chain's accounts are all there, with the fields sent."""
+    """Whether all accounts of a chain exist with the fields sent."""
     ids = [each.id for each in chain]
     found = yield from _found("/accounts/lookup", ids, "accounts", wire.account_in)
     return all(account_stands(each, found.get(each.id)) for each in chain)
 
 
 def _transfers_stand(chain: Sequence[Transfer]) -> Call[bool]:
-    """Whether a chain's transfers are all there, with the fields sent."""
+    """Whether all transfers of a chain exist with the fields sent."""
     ids = ids_to_look_up(chain)
     found = yield from _found("/transfers/lookup", ids, "transfers", wire.transfer_in)
     return all(transfer_stands(each, found) for each in chain)
@@ -173,8 +173,8 @@ def _transfers_stand(chain: Sequence[Transfer]) -> Call[bool]:
 def _found(
     path: str, ids: Sequence[int], name: str, read: Callable[[Dict[str, Any]], Event]
 ) -> Call[Dict[int, Event]]:
-    """What is there of a chain that was answered, by its ids. Where that cannot be learnt, the error
-    says that the chain may be booked."""
+    """The records that exist of a chain that was answered, by their ids. If the look-up fails, its
+    error says that the chain may be booked."""
     found: Dict[int, Event] = {}
     try:
         for first in range(0, len(ids), MAX_EVENTS):
@@ -243,7 +243,7 @@ def _check_count(count: int, what: str) -> None:
 
 
 def _events(events: Iterable[Event], kind: Type[Event]) -> List[Event]:
-    """The events of a batch, as they are sent: nothing is split, and nothing is added."""
+    """The events of a batch, as they are sent: nothing is split or added."""
     listed = list(events)
     for place, event in enumerate(listed):
         if not isinstance(event, kind):

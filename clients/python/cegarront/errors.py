@@ -1,4 +1,4 @@
-"""What a call raises, beside `TypeError` and `ValueError` for what cannot be sent."""
+"""What a call raises, besides `TypeError` and `ValueError` for invalid arguments."""
 
 from __future__ import annotations
 
@@ -49,8 +49,8 @@ class BadReply(LedgerError):
 class EventsRefused(LedgerError):
     """Events of a batch were refused: `refused` has the place and the result of each.
 
-    `first` is the one that failed first by itself, and not because its chain fell. The batch was
-    answered, so its other events stand where their results say so.
+    `first` is the one that caused the first failure, not one that fell with its chain. The batch
+    was answered, so its other events stand if their results say so.
     """
 
     def __init__(self, refused: Tuple[Tuple[int, Result], ...]) -> None:

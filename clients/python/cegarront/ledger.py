@@ -35,12 +35,11 @@ Dated = TypeVar("Dated", Transfer, Balance)
 class Ledger:
     """A tenant's ledger, at an address and with the tenant's key (64 hexadecimal digits).
 
-    Threads may share it; processes may not. `deadline` is how many seconds a call may take in all.
-    Its answer is waited for until then, as long as the connection stands, and a message is sent
-    again by one rule, the same bytes after growing pauses: where the connection was cut or could
-    not be made, where the service is `unavailable`, and where it is `busy` or told `too_much`. That
-    never books an event twice. `timeout` is in how many seconds a connection has to be made, and
-    after how many one whose other end is gone without a word counts as cut.
+    Threads may share it; processes may not. `deadline` is how many seconds a whole call may take.
+    It waits for its answer until then, as long as the connection stands. It resends the same bytes,
+    after growing pauses, if the connection was cut or refused, if the service is `unavailable`, and
+    if it replies `busy` or `too_much`. That never books an event twice. `timeout` is how many
+    seconds connecting may take, and after about how many a vanished peer counts as a cut.
 
     At most `connections` are open at once, and one that was idle for `max_idle` seconds is not used
     again. The service lets go of an idle connection, so keep this below what it allows; with 0 each
@@ -163,11 +162,11 @@ class Ledger:
     def follow(
         self, number: int = 0, limit: int = MAX_EVENTS
     ) -> Iterator[Tuple[Tuple[Transfer, ...], int]]:
-        """The transfers that were accepted since `number` was told, each once and in order: pages
-        of at most `limit`, each with the number to keep once it is dealt with. It begins with 0.
+        """The transfers accepted since `number`, each once and in order, in pages of at most
+        `limit`. Each page has the next number to store. Start with 0.
 
             for transfers, number in ledger.follow(number):
-                ...  # deal with them, and keep the number: both or neither
+                ...  # process them, and store the number: both or neither
 
         It ends where there is no more for now, and is called again later with the number that was
         kept last. Who keeps it together with what was done, in one step, loses and doubles nothing
@@ -178,7 +177,7 @@ class Ledger:
         """
         while True:
             page = self.query_transfers(QueryFilter(timestamp_min=number, limit=limit))
-            later = calls.number_behind(number, page)
+            later = calls.number_after(number, page)
             if later > number:
                 yield page.items, later
             if page.next == 0:
@@ -197,13 +196,13 @@ class Ledger:
     def health(self) -> bool:
         """Whether the service serves; False where it is unavailable, as after a fault of its disk.
 
-        It is asked once, and no key is looked at. `Unanswered`: nothing answered at the address
-        within `timeout` seconds.
+        It asks once, and the service looks at no key. `Unanswered` if nothing answers within
+        `timeout` seconds.
         """
         return calls.serves(self._transport.ask_once(calls.HEALTH))
 
     def _run(self, call: calls.Call[R]) -> R:
-        """Carries the messages of a call, all of them within one deadline."""
+        """Sends the messages of a call, all of them within one deadline."""
         until = self._transport.deadline()
         try:
             message = next(call)
@@ -222,7 +221,7 @@ class Ledger:
 def check_options(
     key: str, timeout: float, deadline: float, connections: int, max_idle: float
 ) -> None:
-    """`ValueError` where no ledger can be asked with these."""
+    """`ValueError` if an option is invalid."""
     if not re.fullmatch("[0-9A-Fa-f]{64}", key):
         raise ValueError("the key is not 64 hexadecimal digits")
     if timeout <= 0 or deadline <= 0 or connections < 1 or max_idle < 0:
@@ -232,16 +231,16 @@ def check_options(
 def _all_of(
     asked: Optional[AccountFilter], page_of: Callable[[AccountFilter], Page[Dated]]
 ) -> Iterator[Dated]:
-    """The items of a page, and of those behind it."""
+    """The items of a page, and of those after it."""
     while asked is not None:
         page = page_of(asked)
         yield from page
-        asked = calls.behind(asked, page)
+        asked = calls.next_page(asked, page)
 
 
 def _all_pages(asked: Optional[Asked], page_of: Callable[[Asked], QueryPage[R]]) -> Iterator[R]:
-    """The items of a page, and of all pages behind it."""
+    """The items of a page, and of all pages after it."""
     while asked is not None:
         page = page_of(asked)
         yield from page
-        asked = calls.behind_query(asked, page)
+        asked = calls.next_query(asked, page)

@@ -156,8 +156,8 @@ class Account(_Record):
 
     @property
     def balance(self) -> int:
-        """What was posted on the credit side less what was on the debit side: what a wallet has.
-        Of an account with its money on the other side, such as a bank's, it is below 0."""
+        """The posted credits minus the posted debits: what a wallet holds. A bank's account is
+        usually negative."""
         return self.credits_posted - self.debits_posted
 
 

@@ -1,9 +1,9 @@
-"""The one rule by which a message is sent again, whatever carries it.
+"""The rule for resending, which both transports share.
 
-A message is sent again, the same bytes, where its answer is not known: the connection was cut or
-could not be made, the service was `unavailable`, or a proxy says that it did not get through. It is
-sent again too where the service refused it for now, as `busy` or `too_much`. The ledger allows that
-for every message: ids that are there are not booked again. Every other reply is final.
+A client resends the same bytes if the answer is not known: the connection was cut or refused, the
+service was `unavailable`, or a proxy reports that it got no answer. It also resends if the service
+refused the message for now, with `busy` or `too_much`. The ledger allows that for every message: it
+never books an id twice. Every other reply is final.
 """
 
 from __future__ import annotations
@@ -20,9 +20,9 @@ from .wire import object_in
 FIRST_PAUSE = 0.05
 LONGEST_PAUSE = 2.0
 
-# With these a proxy says that it had no answer from the service, or takes no more for now.
+# A proxy uses these if it got no answer from the service, or accepts no more for now.
 _PROXY_STATUSES = (408, 429, 502, 503, 504)
-# Nothing was judged, and nothing is booked.
+# These book nothing.
 _NOT_NOW = ("busy", "too_much")
 
 
@@ -36,7 +36,7 @@ class Address(NamedTuple):
 
 
 def address_in(url: str) -> Address:
-    """The address that a URL has. `ValueError` where it has none, or more than one."""
+    """The address in a URL. `ValueError` if it has none, or anything else."""
     parts = urlsplit(url)
     if parts.scheme not in ("http", "https") or not parts.hostname:
         raise ValueError(f"{url!r} is no http:// or https:// address")
@@ -47,7 +47,7 @@ def address_in(url: str) -> Address:
 
 @dataclass(frozen=True)
 class Message:
-    """What is sent. `is_batch` where a lost answer leaves open whether something was booked."""
+    """A request. `is_batch`: after a lost answer it may be booked."""
 
     method: str
     path: str
@@ -57,7 +57,7 @@ class Message:
 
 @dataclass(frozen=True)
 class Reply:
-    """A final reply. `is_repeated` where an earlier sending of the message may have been done."""
+    """A final reply. `is_repeated`: an earlier attempt may have been executed."""
 
     status: int
     body: bytes
@@ -65,11 +65,11 @@ class Reply:
 
 
 class NoAnswer(Exception):
-    """A sending that brought no final answer.
+    """An attempt without a final answer.
 
-    `was_sent` where a part of the message, or all of it, may have come to the service and been
-    done; `is_stale` where a kept connection turned out to be closed, as one may at any time.
-    `retry_after` is how many seconds the service asks to wait.
+    `was_sent`: the service may have executed the message. `is_stale`: a kept connection turned out
+    to be closed, as may happen at any time. `retry_after` is the pause, in seconds, that the
+    service asks for.
     """
 
     def __init__(
@@ -90,21 +90,21 @@ class NoTime(NoAnswer):
 
 @dataclass(frozen=True)
 class Answer:
-    """What one sending brought: a status, a body, and the value of `retry-after`."""
+    """The reply to one attempt: a status, a body, and the value of `retry-after`."""
 
     status: int
     body: bytes
     retry_after: Optional[str] = None
 
     def is_final(self) -> bool:
-        """Whether it says what became of the message, and not only that there is no answer now."""
+        """Whether it says what happened to the message, not only that there is no answer now."""
         name = refusal_in(self.status, self.body)
         if name is None:
             return self.status not in _PROXY_STATUSES
         return name != "unavailable" and name not in _NOT_NOW
 
     def as_failure(self) -> NoAnswer:
-        """What an answer that is not final says."""
+        """The failure that an answer reports if it is not final."""
         name = refusal_in(self.status, self.body)
         return NoAnswer(
             f"{name or 'no answer'} ({self.status})",
@@ -114,7 +114,7 @@ class Answer:
 
 
 def refusal_in(status: int, body: bytes) -> Optional[str]:
-    """The name of a refusal, if the reply is one of the ledger's."""
+    """The name of the ledger's refusal, if the reply is one."""
     if status == 200:
         return None
     try:
@@ -125,7 +125,7 @@ def refusal_in(status: int, body: bytes) -> Optional[str]:
 
 
 def seconds_in(value: Optional[str]) -> float:
-    """The seconds of a `retry-after`. A date, which the service never sends, counts as none."""
+    """The seconds of a `retry-after`. The service never sends a date, which counts as 0."""
     return float(value) if value is not None and value.isascii() and value.isdigit() else 0.0
 
 
@@ -138,7 +138,7 @@ def pause_before(sending: int) -> float:
 
 
 def left_until(until: float) -> float:
-    """The seconds that are left, of which nothing is sent where there are none."""
+    """The seconds that are left. `NoTime` if there are none."""
     left = until - time.monotonic()
     if left <= 0:
         raise NoTime("no time was left")
@@ -146,7 +146,7 @@ def left_until(until: float) -> float:
 
 
 class Attempts:
-    """The sendings of one message: after each, whether and when there is another."""
+    """The attempts to send one message: after each, whether and when another follows."""
 
     def __init__(self, message: Message, until: float) -> None:
         self._message, self._until = message, until
@@ -159,14 +159,13 @@ class Attempts:
         return self._failures == 0
 
     def final(self, answer: Answer) -> Optional[Reply]:
-        """The reply that ends the sendings, if this answer is one."""
+        """The reply that ends the attempts, if this answer is final."""
         if not answer.is_final():
             return None
         return Reply(answer.status, answer.body, self._was_sent)
 
-    def pause_behind(self, failure: NoAnswer) -> float:
-        """Seconds to wait before the next sending. `Unanswered` where they would pass the
-        deadline."""
+    def pause_after(self, failure: NoAnswer) -> float:
+        """Seconds to wait before the next attempt. `Unanswered` if they would pass the deadline."""
         if isinstance(failure, NoTime) and self._last is not None:
             failure = self._last
         self._was_sent, self._last = self._was_sent or failure.was_sent, failure

@@ -1,4 +1,4 @@
-"""The client as a process that clients/harness drives: a call a line, and what it gave.
+"""The client as a process that clients/harness drives: one call per line, and its result.
 
     python3 clients/python/tests/driver.py [async]
 
@@ -80,7 +80,7 @@ def page(told):
 
 
 async def value_of(told):
-    """What a call gives, of either form."""
+    """The result of a call of either form."""
     if inspect.isawaitable(told):
         return await told
     return [each async for each in told] if hasattr(told, "__aiter__") else told

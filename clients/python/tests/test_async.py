@@ -1,5 +1,4 @@
-"""The form for asyncio, where it is more than cases can tell: tasks beside each other, and calls that
-are cancelled."""
+"""What cases cannot show of the form for asyncio: concurrent tasks, and cancelled calls."""
 
 import asyncio
 import socket
@@ -17,7 +16,7 @@ PAID = Transfer(id=100, debit_account_id=1, credit_account_id=2, amount=10, ledg
 
 
 class Silent:
-    """Takes one message, says nothing, and notes how the client leaves."""
+    """Reads one message, does not answer, and records how the client leaves."""
 
     def __init__(self):
         self.listener = socket.create_server(("127.0.0.1", 0))

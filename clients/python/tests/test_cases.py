@@ -1,4 +1,4 @@
-"""Both forms of the client do what clients/cases.json says."""
+"""Both forms of the client pass clients/cases.json."""
 
 import pathlib
 import subprocess

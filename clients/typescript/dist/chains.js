@@ -2,21 +2,21 @@
  * Chains that were sent again, and whether they stand.
  *
  * A chain stands or falls whole, and inside it `exists` is a failure. So a chain that was accepted, sent
- * again, answers `exists` for its first event and `linked_event_failed` for all others, as does one of
- * which an event or two are there by another request. A look-up of all its ids tells which.
+ * again, answers `exists` for its first event and `linked_event_failed` for all others. So does a chain
+ * of which another request has booked an event or two. A look-up of all its ids shows which it is.
  */
 import { MAX_128, TransferFlag } from "./records.js";
 const LINKED = 1;
 const LINKED_EVENT_FAILED = 2;
 const POST_OR_VOID = TransferFlag.postPendingTransfer | TransferFlag.voidPendingTransfer;
 const BALANCING = TransferFlag.balancingDebit | TransferFlag.balancingCredit;
-// What a retry is compared in, beside a transfer's amount. Of a post or void the last list is compared
-// only where it was given: what is 0 takes the hold's value.
+// The fields that a retry is compared in, besides a transfer's amount. A post or void compares those of the
+// last list only if they were given: 0 takes the hold's value.
 const MARKS = ["userData128", "userData64", "userData32", "ledger", "code"];
 const OF_ACCOUNTS = ["flags", ...MARKS];
 const OF_TRANSFERS = ["flags", "pendingId", "timeout"];
 const GIVEN_OR_THE_HOLDS = ["debitAccountId", "creditAccountId", ...MARKS];
-/** The places of each chain of a batch, the end not included. What is not linked is a chain of one. */
+/** The places of each chain of a batch, without its end. An unlinked event is a chain of its own. */
 export function chainsOf(events) {
     const chains = [];
     let from = 0;
@@ -33,18 +33,18 @@ export function mayStand(numbers, exists) {
     const [first, ...others] = numbers;
     return first === exists && others.length > 0 && others.every((it) => it === LINKED_EVENT_FAILED);
 }
-/** Whether an account is there with the fields sent. */
+/** Whether an account exists with the fields sent. */
 export function accountStands(sent, there) {
     return there !== undefined && areEqual(sent, there, OF_ACCOUNTS);
 }
-/** The ids of transfers, and of the holds that they post whole. */
+/** The ids of transfers, and of the holds that they post in full. */
 export function idsToLookUp(sent) {
     const holds = sent.filter(postsWhole).map((each) => each.pendingId ?? 0n);
     return [...new Set([...sent.map((each) => each.id), ...holds])];
 }
 /**
- * Whether a transfer is there with the fields sent, by the rules by which the ledger answers `exists`.
- * `found` has the transfers of the `idsToLookUp`.
+ * Whether a transfer exists with the fields sent, by the rules with which the ledger answers `exists`.
+ * `found` has the transfers of `idsToLookUp`.
  */
 export function transferStands(sent, found) {
     const there = found.get(sent.id);
@@ -71,7 +71,7 @@ function postsWhole(sent) {
 function isGiven(value) {
     return value !== undefined && value != 0;
 }
-/** Whether two records are equal in these fields. One that is left out is 0. */
+/** Whether two records are equal in these fields. An omitted field is 0. */
 function areEqual(sent, there, names) {
     return names.every((name) => (isGiven(sent[name]) ? sent[name] === there[name] : there[name] == 0));
 }

@@ -1,11 +1,11 @@
-/** What a call throws, beside `TypeError` and `RangeError` for what cannot be sent. */
+/** What a call throws, besides `TypeError` and `RangeError` for invalid arguments. */
 import type { Result } from "./results.js";
 /**
  * What went wrong with a call.
  *
- * `mayBeBooked` is true where a sending of the call's batch was left without an answer, so that the
- * batch may stand in the ledger all the same. Then send the same events with the same ids again: only
- * an answer tells. A look-up that finds nothing does not, since the batch may still be on its way.
+ * `mayBeBooked` is true if an attempt to send the call's batch got no answer, so that the batch may stand
+ * in the ledger all the same. Then send the same events with the same ids again: only an answer is
+ * conclusive. A look-up that finds nothing is not, since the batch may still be on its way.
  */
 export declare class LedgerError extends Error {
     mayBeBooked: boolean;
@@ -23,14 +23,14 @@ export declare class Refused extends LedgerError {
 export declare class Unanswered extends LedgerError {
     readonly name = "Unanswered";
 }
-/** A reply that no ledger gives: another service answers at this address, or a proxy. */
+/** A reply that no ledger sends: another service answers at this address, or a proxy. */
 export declare class BadReply extends LedgerError {
     readonly name = "BadReply";
 }
 /**
- * Events of a batch were refused: `refused` has the place and the result of each, and `first` the one
- * that failed first by itself, and not because its chain fell. The batch was answered, so its other
- * events stand where their results say so.
+ * Events of a batch were refused. `refused` has the place and the result of each, and `first` the one that
+ * caused the first failure, not one that fell with its chain. The batch was answered, so its other events
+ * stand if their results say so.
  */
 export declare class EventsRefused extends LedgerError {
     readonly refused: readonly {

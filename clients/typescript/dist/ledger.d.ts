@@ -3,79 +3,78 @@ import type { Account, AccountEvent, AccountFilter, Balance, Entry, Hold, OpenHo
 import { Results } from "./results.js";
 import type { AccountResultName, TransferResultName } from "./results.js";
 export interface LedgerOptions {
-    /** Milliseconds that a call may take in all, 60,000 if left out. */
+    /** Milliseconds that a whole call may take, 60,000 by default. */
     readonly deadline?: number;
-    /** How many messages are on their way at once, 16 if left out. */
+    /** The most requests that run at once, 16 by default. */
     readonly connections?: number;
 }
 export interface CallOptions {
-    /** Ends the call, which then throws its reason. Whether its batch is booked stays open. */
+    /** Aborts the call, which then throws the signal's reason. Its batch may be booked all the same. */
     readonly signal?: AbortSignal;
 }
 /**
  * A tenant's ledger, at an address and with the tenant's key (64 hexadecimal digits).
  *
- * A call's answer is waited for until its deadline, as long as the connection stands, and a message is
- * sent again by one rule, the same bytes after growing pauses: where the connection was cut or could not
- * be made, where the service is `unavailable`, and where it is `busy` or told `too_much`. That never
- * books an event twice.
+ * A call waits for its answer until its deadline, as long as the connection stands. It resends the same
+ * bytes, after growing pauses, if the connection was cut or refused, if the service is `unavailable`, and
+ * if it replies `busy` or `too_much`. That never books an event twice.
  *
- * Calls throw `Unanswered` where no answer came before the deadline, `Refused` with the refusal's name
- * where the service refuses the request, `BadReply` where something else answers, and `TypeError` or
- * `RangeError`, before anything is sent, for what cannot be sent.
+ * Calls throw `Unanswered` if no answer came before the deadline, `Refused` with the refusal's name if the
+ * service refuses the request, `BadReply` if something other than a ledger answers, and `TypeError` or
+ * `RangeError`, before anything is sent, for invalid arguments.
  */
 export declare class Ledger {
     #private;
     constructor(url: string, key: string, options?: LedgerOptions);
-    /** Opens accounts, as one batch of at most 1,000, and answers a result for each. */
+    /** Opens accounts, as one batch of at most 1,000, and returns a result for each. */
     createAccounts(accounts: readonly AccountEvent[], options?: CallOptions): Promise<Results<AccountResultName>>;
     /**
-     * Sends transfers, posts and voids, as one batch of at most 1,000, and answers a result for each. A
-     * batch of none moves the clock, so that holds which are due expire.
+     * Sends transfers, posts and voids, as one batch of at most 1,000, and returns a result for each. An
+     * empty batch moves the clock, so that holds that are due expire.
      */
     createTransfers(transfers: readonly TransferEvent[], options?: CallOptions): Promise<Results<TransferResultName>>;
     /**
-     * The accounts with these ids that are there, at most 1,000, in the order asked. Balances are those at
-     * the ledger's clock: a hold that is due is among them until the next batch, or until the service
-     * releases it by itself, within seconds.
+     * The accounts that exist among at most 1,000 ids, in the order asked. Balances are those at the
+     * ledger's clock: they include a hold that is due until the next batch, or until the service releases
+     * it, within seconds.
      */
     lookupAccounts(ids: readonly bigint[], options?: CallOptions): Promise<Page<Account>>;
     /**
-     * The transfers with these ids that are there, at most 1,000, in the order asked. One that is not there
-     * may still be on its way, if its batch had no answer.
+     * The transfers that exist among at most 1,000 ids, in the order asked. A missing one may still be on
+     * its way, if its batch got no answer.
      */
     lookupTransfers(ids: readonly bigint[], options?: CallOptions): Promise<Page<Transfer>>;
-    /** What has become of the pending transfers with these ids. What is none is left out. */
+    /** The state of the pending transfers with these ids. Other ids are omitted. */
     lookupPending(ids: readonly bigint[], options?: CallOptions): Promise<Page<Hold>>;
     /** A page of an account's transfers. `Refused`: `no_account`. */
     getAccountTransfers(asked: AccountFilter, options?: CallOptions): Promise<Page<Transfer>>;
     /** A page of an account's balances after its transfers. `Refused`: `no_account`, `no_history`. */
     getAccountBalances(asked: AccountFilter, options?: CallOptions): Promise<Page<Balance>>;
-    /** A page of the accounts that the filter asks for, in the order in which they were opened. */
+    /** A page of the accounts that match the filter, in the order in which they were opened. */
     queryAccounts(asked?: QueryFilter, options?: CallOptions): Promise<QueryPage<Account>>;
-    /** A page of the transfers that the filter asks for, in the order in which they were accepted. */
+    /** A page of the transfers that match the filter, in the order in which they were accepted. */
     queryTransfers(asked?: QueryFilter, options?: CallOptions): Promise<QueryPage<Transfer>>;
-    /** A page of the pending transfers that are open, in the order in which they were accepted. */
+    /** A page of the open pending transfers, in the order in which they were accepted. */
     openPending(asked?: PageFilter, options?: CallOptions): Promise<QueryPage<OpenHold>>;
-    /** All transfers of an account that the filter asks for. Pages are fetched as they are needed. */
+    /** All transfers of an account that match the filter. Pages are fetched as needed. */
     iterAccountTransfers(asked: AccountFilter, options?: CallOptions): AsyncGenerator<Transfer>;
-    /** All balances of an account that the filter asks for, fetched in the same way. */
+    /** All balances of an account that match the filter, fetched in the same way. */
     iterAccountBalances(asked: AccountFilter, options?: CallOptions): AsyncGenerator<Balance>;
-    /** All accounts that the filter asks for; each page has the balances of its own time. */
+    /** All accounts that match the filter; each page has the balances of its own time. */
     iterAccounts(asked?: QueryFilter, options?: CallOptions): AsyncGenerator<Account>;
-    /** All transfers that the filter asks for. */
+    /** All transfers that match the filter. */
     iterTransfers(asked?: QueryFilter, options?: CallOptions): AsyncGenerator<Transfer>;
     /** All pending transfers that are open. */
     iterOpenPending(asked?: PageFilter, options?: CallOptions): AsyncGenerator<OpenHold>;
     /**
-     * The transfers that were accepted since `number` was told, each once and in order: pages of at most
-     * `limit`, each with the number to keep once it is dealt with. It begins with 0.
+     * The transfers accepted since `number`, each once and in order, in pages of at most `limit`. Each page
+     * has the next number to store. Start with 0.
      *
-     * It ends where there is no more for now, and is called again later with the number that was kept last.
-     * Who keeps it together with what was done, in one step, loses and doubles nothing by a kill.
+     * It ends when there is no more for now; call it again later, with the number stored last. Store the
+     * number together with your own work, in one step: then a crash neither loses nor repeats anything.
      *
-     * `LedgerError` where the ledger's clock is behind the number: an older copy of its file was put back,
-     * and who follows it begins anew.
+     * `LedgerError` if the ledger's clock is before the number: an older copy of its file was restored, and
+     * the follower has to start over.
      */
     follow(number?: bigint, options?: CallOptions & {
         readonly limit?: number;
@@ -83,8 +82,8 @@ export declare class Ledger {
         readonly transfers: readonly Transfer[];
         readonly number: bigint;
     }>;
-    /** All entries of an account, the oldest first, fetched whole: some 100 bytes an entry. */
+    /** All entries of an account, oldest first, fetched at once: some 100 bytes per entry. */
     statement(accountId: bigint, options?: CallOptions): Promise<readonly Entry[]>;
-    /** Whether the service serves, asked once. `Unanswered` where nothing answers within 10 seconds. */
+    /** Whether the service serves. It asks once; `Unanswered` if nothing answers within 10 seconds. */
     health(options?: CallOptions): Promise<boolean>;
 }

@@ -10,14 +10,13 @@ const HEALTH_WITHIN = 10000;
 /**
  * A tenant's ledger, at an address and with the tenant's key (64 hexadecimal digits).
  *
- * A call's answer is waited for until its deadline, as long as the connection stands, and a message is
- * sent again by one rule, the same bytes after growing pauses: where the connection was cut or could not
- * be made, where the service is `unavailable`, and where it is `busy` or told `too_much`. That never
- * books an event twice.
+ * A call waits for its answer until its deadline, as long as the connection stands. It resends the same
+ * bytes, after growing pauses, if the connection was cut or refused, if the service is `unavailable`, and
+ * if it replies `busy` or `too_much`. That never books an event twice.
  *
- * Calls throw `Unanswered` where no answer came before the deadline, `Refused` with the refusal's name
- * where the service refuses the request, `BadReply` where something else answers, and `TypeError` or
- * `RangeError`, before anything is sent, for what cannot be sent.
+ * Calls throw `Unanswered` if no answer came before the deadline, `Refused` with the refusal's name if the
+ * service refuses the request, `BadReply` if something other than a ledger answers, and `TypeError` or
+ * `RangeError`, before anything is sent, for invalid arguments.
  */
 export class Ledger {
     #transport;
@@ -32,7 +31,7 @@ export class Ledger {
         this.#transport = new Transport(url, key, connections);
         this.#deadline = deadline;
     }
-    /** Opens accounts, as one batch of at most 1,000, and answers a result for each. */
+    /** Opens accounts, as one batch of at most 1,000, and returns a result for each. */
     async createAccounts(accounts, options = {}) {
         const until = this.#until(options);
         return this.#batch("/accounts", accounts, accountResults.exists, until, async (chain) => {
@@ -42,8 +41,8 @@ export class Ledger {
         });
     }
     /**
-     * Sends transfers, posts and voids, as one batch of at most 1,000, and answers a result for each. A
-     * batch of none moves the clock, so that holds which are due expire.
+     * Sends transfers, posts and voids, as one batch of at most 1,000, and returns a result for each. An
+     * empty batch moves the clock, so that holds that are due expire.
      */
     async createTransfers(transfers, options = {}) {
         const until = this.#until(options);
@@ -54,23 +53,23 @@ export class Ledger {
         });
     }
     /**
-     * The accounts with these ids that are there, at most 1,000, in the order asked. Balances are those at
-     * the ledger's clock: a hold that is due is among them until the next batch, or until the service
-     * releases it by itself, within seconds.
+     * The accounts that exist among at most 1,000 ids, in the order asked. Balances are those at the
+     * ledger's clock: they include a hold that is due until the next batch, or until the service releases
+     * it, within seconds.
      */
     lookupAccounts(ids, options = {}) {
         const body = () => wire.idsBody(ids);
         return this.#page("/accounts/lookup", body, "accounts", wire.accountIn, this.#until(options));
     }
     /**
-     * The transfers with these ids that are there, at most 1,000, in the order asked. One that is not there
-     * may still be on its way, if its batch had no answer.
+     * The transfers that exist among at most 1,000 ids, in the order asked. A missing one may still be on
+     * its way, if its batch got no answer.
      */
     lookupTransfers(ids, options = {}) {
         const body = () => wire.idsBody(ids);
         return this.#page("/transfers/lookup", body, "transfers", wire.transferIn, this.#until(options));
     }
-    /** What has become of the pending transfers with these ids. What is none is left out. */
+    /** The state of the pending transfers with these ids. Other ids are omitted. */
     lookupPending(ids, options = {}) {
         const body = () => wire.idsBody(ids);
         return this.#page("/pending/lookup", body, "pending", wire.holdIn, this.#until(options));
@@ -85,31 +84,31 @@ export class Ledger {
         const body = () => wire.filterBody(ofAccount(asked), 7);
         return this.#page("/history/balances", body, "balances", wire.balanceIn, this.#until(options));
     }
-    /** A page of the accounts that the filter asks for, in the order in which they were opened. */
+    /** A page of the accounts that match the filter, in the order in which they were opened. */
     queryAccounts(asked = {}, options = {}) {
         return this.#query("/query/accounts", asked, "accounts", wire.accountIn, options);
     }
-    /** A page of the transfers that the filter asks for, in the order in which they were accepted. */
+    /** A page of the transfers that match the filter, in the order in which they were accepted. */
     queryTransfers(asked = {}, options = {}) {
         return this.#query("/query/transfers", asked, "transfers", wire.transferIn, options);
     }
-    /** A page of the pending transfers that are open, in the order in which they were accepted. */
+    /** A page of the open pending transfers, in the order in which they were accepted. */
     openPending(asked = {}, options = {}) {
         return this.#query("/pending/open", asked, "pending", wire.openHoldIn, options);
     }
-    /** All transfers of an account that the filter asks for. Pages are fetched as they are needed. */
+    /** All transfers of an account that match the filter. Pages are fetched as needed. */
     iterAccountTransfers(asked, options = {}) {
         return allOf(asked, (page) => this.getAccountTransfers(page, options));
     }
-    /** All balances of an account that the filter asks for, fetched in the same way. */
+    /** All balances of an account that match the filter, fetched in the same way. */
     iterAccountBalances(asked, options = {}) {
         return allOf(asked, (page) => this.getAccountBalances(page, options));
     }
-    /** All accounts that the filter asks for; each page has the balances of its own time. */
+    /** All accounts that match the filter; each page has the balances of its own time. */
     iterAccounts(asked = {}, options = {}) {
         return allPages(asked, (page) => this.queryAccounts(page, options));
     }
-    /** All transfers that the filter asks for. */
+    /** All transfers that match the filter. */
     iterTransfers(asked = {}, options = {}) {
         return allPages(asked, (page) => this.queryTransfers(page, options));
     }
@@ -118,14 +117,14 @@ export class Ledger {
         return allPages(asked, (page) => this.openPending(page, options));
     }
     /**
-     * The transfers that were accepted since `number` was told, each once and in order: pages of at most
-     * `limit`, each with the number to keep once it is dealt with. It begins with 0.
+     * The transfers accepted since `number`, each once and in order, in pages of at most `limit`. Each page
+     * has the next number to store. Start with 0.
      *
-     * It ends where there is no more for now, and is called again later with the number that was kept last.
-     * Who keeps it together with what was done, in one step, loses and doubles nothing by a kill.
+     * It ends when there is no more for now; call it again later, with the number stored last. Store the
+     * number together with your own work, in one step: then a crash neither loses nor repeats anything.
      *
-     * `LedgerError` where the ledger's clock is behind the number: an older copy of its file was put back,
-     * and who follows it begins anew.
+     * `LedgerError` if the ledger's clock is before the number: an older copy of its file was restored, and
+     * the follower has to start over.
      */
     async *follow(number = 0n, options = {}) {
         const { limit = MAX_EVENTS } = options;
@@ -133,7 +132,7 @@ export class Ledger {
             const page = await this.queryTransfers({ timestampMin: number, limit }, options);
             const later = page.next || page.clock + 1n;
             if (later < number) {
-                throw new LedgerError(`the clock ${page.clock} is behind ${number}: an older ledger`);
+                throw new LedgerError(`the clock ${page.clock} is before ${number}: an older ledger`);
             }
             if (later > number)
                 yield { transfers: page.items, number: later };
@@ -142,14 +141,14 @@ export class Ledger {
             number = later;
         }
     }
-    /** All entries of an account, the oldest first, fetched whole: some 100 bytes an entry. */
+    /** All entries of an account, oldest first, fetched at once: some 100 bytes per entry. */
     async statement(accountId, options = {}) {
         const path = wire.statementPath(accountId);
         const message = { method: "GET", path, isBatch: false };
         const reply = await this.#transport.ask(message, this.#until(options));
         return readBody(message, reply, wire.entriesIn);
     }
-    /** Whether the service serves, asked once. `Unanswered` where nothing answers within 10 seconds. */
+    /** Whether the service serves. It asks once; `Unanswered` if nothing answers within 10 seconds. */
     async health(options = {}) {
         const message = { method: "GET", path: "/health", isBatch: false };
         const until = this.#until(options);
@@ -190,8 +189,8 @@ export class Ledger {
         return new Results(clock, results);
     }
     /**
-     * What is there of a chain that was answered, by its ids. Where that cannot be learnt, the error says
-     * that the chain may be booked.
+     * The records that exist of a chain that was answered, by their ids. If the look-up fails, its error
+     * says that the chain may be booked.
      */
     async #found(path, ids, name, read, until) {
         const found = new Map();
@@ -253,7 +252,7 @@ function limitOf(asked) {
 function ofAccount(asked) {
     return { ...asked, limit: limitOf(asked), flags: asked.flags ?? BOTH_SIDES };
 }
-/** The items of a page, and of those behind it. */
+/** The items of a page, and of those after it. */
 async function* allOf(asked, pageOf) {
     for (;;) {
         const { items } = await pageOf(asked);
@@ -272,7 +271,7 @@ async function* allOf(asked, pageOf) {
         }
     }
 }
-/** The items of a page, and of all pages behind it. */
+/** The items of a page, and of all pages after it. */
 async function* allPages(asked, pageOf) {
     for (;;) {
         const { items, next } = await pageOf(asked);

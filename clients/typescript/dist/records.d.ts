@@ -27,13 +27,13 @@ export declare const TransferFlag: {
     /** The amount is lowered to what the credit account has left. */
     readonly balancingCredit: 32;
 };
-/** Which entries of an account a filter asks for, and in which order. */
+/** Which entries of an account a filter matches, and in which order. */
 export declare const FilterFlag: {
     readonly debits: 1;
     readonly credits: 2;
     readonly newestFirst: 4;
 };
-/** In which order records are asked for. */
+/** The order of records. */
 export declare const QueryFlag: {
     readonly newestFirst: 1;
 };
@@ -58,7 +58,7 @@ export interface Account {
     readonly creditsPosted: bigint;
     readonly timestamp: bigint;
 }
-/** An account to be opened: what is left out is 0. */
+/** An account to open: omitted fields are 0. */
 export declare type AccountEvent = Pick<Account, "id" | "ledger" | "code"> & Partial<Account>;
 /**
  * A transfer. `amount` is in the ledger's smallest unit, `timeout` of a pending transfer in seconds (0
@@ -82,23 +82,23 @@ export interface Transfer {
     readonly timestamp: bigint;
 }
 /**
- * A transfer to be sent: what is left out is 0. In a post or void what is 0 of accounts, ledger, code
- * and user data is the hold's.
+ * A transfer to send: omitted fields are 0. In a post or void an account, ledger, code or user data of 0
+ * takes the hold's value.
  */
 export declare type TransferEvent = Pick<Transfer, "id"> & Partial<Transfer>;
-/** Of what times records are asked for: nanoseconds, inclusive, and 0 is no bound. */
+/** A range of times in nanoseconds, inclusive; 0 is no bound. */
 export interface PageFilter {
     readonly timestampMin?: bigint;
     readonly timestampMax?: bigint;
-    /** Records a page, 1 to 1,000, which it is if left out. */
+    /** Records per page, 1 to 1,000, which is the default. */
     readonly limit?: number;
     readonly flags?: number;
 }
-/** Which entries of an account are asked for: of both sides, if `flags` are left out. */
+/** Which entries of an account to return: those of both sides, if `flags` are omitted. */
 export interface AccountFilter extends PageFilter {
     readonly accountId: bigint;
 }
-/** Which accounts or transfers are asked for: those that have each value given. 0 is any. */
+/** Which accounts or transfers to return: those with each value given. 0 matches any. */
 export interface QueryFilter extends PageFilter {
     readonly userData128?: bigint;
     readonly userData64?: bigint;
@@ -107,13 +107,13 @@ export interface QueryFilter extends PageFilter {
     readonly code?: number;
 }
 export declare type HoldState = "open" | "posted" | "voided" | "expired";
-/** What has become of a pending transfer. `due` is when it expires (nanoseconds), 0 for never. */
+/** The state of a pending transfer. `due` is when it expires (nanoseconds), 0 for never. */
 export interface Hold {
     readonly id: bigint;
     readonly due: bigint;
     readonly state: HoldState;
 }
-/** A hold that is open, with the time at which it was accepted. */
+/** An open hold, with the time at which it was accepted. */
 export interface OpenHold extends Hold {
     readonly timestamp: bigint;
 }
@@ -132,21 +132,21 @@ export interface Entry extends Balance {
     readonly kind: "single" | "pending" | "post" | "void";
     readonly amount: bigint;
 }
-/** What a request was told: its items, and the ledger's clock (nanoseconds) as it was asked. */
+/** The items of a reply, and the ledger's clock (nanoseconds) at that time. */
 export interface Page<T> {
     readonly clock: bigint;
     readonly items: readonly T[];
 }
 /**
- * A page of a query, and the time with which the one behind it is asked for: as `timestampMin`, or the
- * newest first as `timestampMax`. It is 0 where there is no more. A page may have fewer items than its
- * limit, or none, and another behind it.
+ * A page of a query. `next` is the `timestampMin` of the next page, or with `newestFirst` its
+ * `timestampMax`. It is 0 after the last page. A page may have fewer items than its limit, or none, and
+ * still have a next one.
  */
 export interface QueryPage<T> extends Page<T> {
     readonly next: bigint;
 }
 /**
- * What was posted on an account's credit side less what was on its debit side: what a wallet has. Of an
- * account with its money on the other side, such as a bank's, it is below 0.
+ * An account's posted credits minus its posted debits: what a wallet holds. A bank's account is usually
+ * negative.
  */
 export declare function balanceOf(account: Account): bigint;

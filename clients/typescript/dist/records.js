@@ -27,13 +27,13 @@ export const TransferFlag = {
     /** The amount is lowered to what the credit account has left. */
     balancingCredit: 32,
 };
-/** Which entries of an account a filter asks for, and in which order. */
+/** Which entries of an account a filter matches, and in which order. */
 export const FilterFlag = { debits: 1, credits: 2, newestFirst: 4 };
-/** In which order records are asked for. */
+/** The order of records. */
 export const QueryFlag = { newestFirst: 1 };
 /**
- * What was posted on an account's credit side less what was on its debit side: what a wallet has. Of an
- * account with its money on the other side, such as a bank's, it is below 0.
+ * An account's posted credits minus its posted debits: what a wallet holds. A bank's account is usually
+ * negative.
  */
 export function balanceOf(account) {
     return account.creditsPosted - account.debitsPosted;

@@ -1,4 +1,4 @@
-/** What events are answered (docs/RESULTS.md). */
+/** The results of events (docs/RESULTS.md). */
 /** The results of an account event and their numbers, in the order in which they are judged. */
 export declare const accountResults: {
     readonly ok: 0;
@@ -85,27 +85,27 @@ export declare const transferResults: {
 export declare type AccountResultName = keyof typeof accountResults;
 export declare type TransferResultName = keyof typeof transferResults;
 /**
- * What became of an event:
+ * What happened to an event:
  *
- * - `accepted`: it was accepted, and this answer says so.
- * - `found`: an earlier sending of this call had no answer, and the event was found in the ledger.
- * - `existed`: it was in the ledger before this call, by an id that was sent before.
- * - `refused`: nothing of it stands by this call; `number` and `name` say why.
+ * - `accepted`: it was accepted now.
+ * - `found`: an earlier attempt of this call got no answer, and the event exists.
+ * - `existed`: it existed before this call, because its id was sent before.
+ * - `refused`: this call did not book it; `number` and `name` say why.
  */
 export declare type Outcome = "accepted" | "found" | "existed" | "refused";
 /**
- * What one event was answered. `number` and `name` are the ledger's own: in a chain that was found
- * whole they stay `exists` for the first event and `linked_event_failed` for the others, and `outcome`
- * says what that means. `timestamp` (nanoseconds) is that of the event's place in the batch, so it is
- * the stored record's where the event was accepted; else look the id up.
+ * The answer to one event. `number` and `name` are the ledger's own. In a chain that was found whole they
+ * stay `exists` for the first event and `linked_event_failed` for the others, and `outcome` says what that
+ * means. `timestamp` (nanoseconds) is that of the event's place in the batch. So it is the stored record's
+ * only if the event was accepted now; else look the id up.
  */
 export interface Result<Name extends string = string> {
     readonly number: number;
-    /** A name of the table, or of a later version's. */
+    /** A name of the table, or one of a later version. */
     readonly name: Name | (string & {});
     readonly timestamp: bigint;
     readonly outcome: Outcome;
-    /** Whether the event stands in the ledger with the fields sent, by whichever sending. */
+    /** Whether the event stands in the ledger with the fields sent, by whichever attempt. */
     readonly stands: boolean;
 }
 /** The results of a batch, one for each event in its order, and the clock after the batch. */
@@ -119,6 +119,6 @@ export declare class Results<Name extends string = string> implements Iterable<R
         readonly place: number;
         readonly result: Result<Name>;
     }[];
-    /** Throws `EventsRefused` where an event was refused. */
+    /** Throws `EventsRefused` if an event was refused. */
     throwIfRefused(): this;
 }

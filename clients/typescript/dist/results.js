@@ -1,4 +1,4 @@
-/** What events are answered (docs/RESULTS.md). */
+/** The results of events (docs/RESULTS.md). */
 import { EventsRefused } from "./errors.js";
 /** The results of an account event and their numbers, in the order in which they are judged. */
 export const accountResults = {
@@ -98,7 +98,7 @@ export class Results {
     get refused() {
         return this.items.map((result, place) => ({ place, result })).filter((it) => !it.result.stands);
     }
-    /** Throws `EventsRefused` where an event was refused. */
+    /** Throws `EventsRefused` if an event was refused. */
     throwIfRefused() {
         if (this.refused.length > 0)
             throw new EventsRefused(this.refused);

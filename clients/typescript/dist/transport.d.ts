@@ -1,32 +1,32 @@
 /**
- * Messages and their replies: the rule by which a message is sent again.
+ * Messages and their replies, and the rule for resending.
  *
- * Its answer is waited for until the call's deadline, as long as the connection stands. A message is
- * sent again, the same bytes, where its answer is not known: the connection was cut or could not be
- * made, the service was `unavailable`, or a proxy says that it did not get through. It is sent again too
- * where the service refused it for now, as `busy` or `too_much`. The ledger allows that for every
- * message: ids that are there are not booked again. Every other reply is final.
+ * A call waits for an answer until its deadline, as long as the connection stands. It resends the same
+ * bytes if the answer is not known: the connection was cut or refused, the service was `unavailable`, or a
+ * proxy reports that it got no answer. It also resends if the service refused the message for now, with
+ * `busy` or `too_much`. The ledger allows that for every message: it never books an id twice. Every other
+ * reply is final.
  */
-/** What is sent. `isBatch` where a lost answer leaves open whether something was booked. */
+/** A request. `isBatch`: after a lost answer it may be booked. */
 export interface Message {
     readonly method: "GET" | "POST";
     readonly path: string;
     readonly body?: string;
     readonly isBatch: boolean;
 }
-/** What one sending brought. */
+/** The reply to one attempt. */
 export interface Answer {
     readonly status: number;
     readonly body: string;
     readonly retryAfter: string | null;
 }
-/** A final reply. `isRepeated` where an earlier sending of the message may have been done. */
+/** A final reply. `isRepeated`: an earlier attempt to send the message may have been executed. */
 export interface Reply {
     readonly status: number;
     readonly body: string;
     readonly isRepeated: boolean;
 }
-/** A sending that brought no final answer. `wasSent` where it may have come to the service and been done. */
+/** An attempt without a final answer. `wasSent`: the service may have executed it. */
 interface Failure {
     readonly text: string;
     readonly wasSent: boolean;
@@ -34,22 +34,22 @@ interface Failure {
     readonly retryAfter: number;
     readonly cause?: unknown;
 }
-/** When a call has to be done, by `performance.now()`, and what ends it before that. */
+/** When a call has to end, by `performance.now()`, and what aborts it before. */
 export interface Until {
     readonly deadline: number;
     readonly signal: AbortSignal | undefined;
 }
-/** The name of a refusal, if the reply is one of the ledger's. */
+/** The name of the ledger's refusal, if the reply is one. */
 export declare function refusalIn(status: number, body: string): string | undefined;
-/** What an answer says that only tells that there is none now, or undefined where it is final. */
+/** The failure that an answer reports, or undefined if the answer is final. */
 export declare function failureIn(answer: Answer): Failure | undefined;
 /** Sends messages to one address with one key, at most `connections` at once. */
 export declare class Transport {
     #private;
     constructor(url: string, key: string, connections: number);
-    /** The final reply to a message. `Unanswered` where none came in time. */
+    /** The final reply to a message. `Unanswered` if none came in time. */
     ask(message: Message, until: Until): Promise<Reply>;
-    /** The answer to one sending. `Unanswered` where none came. */
+    /** The answer to one attempt. `Unanswered` if none came. */
     askOnce(message: Message, until: Until): Promise<Answer>;
 }
 export {};

@@ -2,7 +2,7 @@
 import type { Account, Balance, Entry, Hold, OpenHold, Transfer } from "./records.js";
 import type { Result } from "./results.js";
 declare type Json = Record<string, unknown>;
-/** What a body that is no ledger's makes of reading it. */
+/** The body is not one that a ledger sends. */
 export declare class Unreadable extends Error {
 }
 /** The body of a batch. */

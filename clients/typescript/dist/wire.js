@@ -38,7 +38,7 @@ const TRANSFER = [
     "timeout",
     "timestamp",
 ];
-/** What a body that is no ledger's makes of reading it. */
+/** The body is not one that a ledger sends. */
 export class Unreadable extends Error {
 }
 /** `debitAccountId` is `debit_account_id` in a message. */
@@ -61,7 +61,7 @@ function checkNumber(place, name, value) {
         throw new RangeError(`${place}${name}: ${value} is not from 0 to 2^${bits} - 1`);
     }
 }
-/** A record as JSON. Fields that are 0 are left out, which means the same. */
+/** A record as JSON. Fields that are 0 are omitted, which means the same. */
 function recordJson(place, record) {
     const json = {};
     for (const [name, value] of Object.entries(record)) {

@@ -1,4 +1,4 @@
-// The client as a process that clients/harness drives: a call a line, and what it gave.
+// The client as a process that clients/harness drives: one call per line, and its result.
 //
 //     node clients/typescript/harness/driver.mjs
 

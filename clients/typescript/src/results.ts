@@ -1,4 +1,4 @@
-/** What events are answered (docs/RESULTS.md). */
+/** The results of events (docs/RESULTS.md). */
 
 import { EventsRefused } from "./errors.js";
 
@@ -91,28 +91,28 @@ export type AccountResultName = keyof typeof accountResults;
 export type TransferResultName = keyof typeof transferResults;
 
 /**
- * What became of an event:
+ * What happened to an event:
  *
- * - `accepted`: it was accepted, and this answer says so.
- * - `found`: an earlier sending of this call had no answer, and the event was found in the ledger.
- * - `existed`: it was in the ledger before this call, by an id that was sent before.
- * - `refused`: nothing of it stands by this call; `number` and `name` say why.
+ * - `accepted`: it was accepted now.
+ * - `found`: an earlier attempt of this call got no answer, and the event exists.
+ * - `existed`: it existed before this call, because its id was sent before.
+ * - `refused`: this call did not book it; `number` and `name` say why.
  */
 export type Outcome = "accepted" | "found" | "existed" | "refused";
 
 /**
- * What one event was answered. `number` and `name` are the ledger's own: in a chain that was found
- * whole they stay `exists` for the first event and `linked_event_failed` for the others, and `outcome`
- * says what that means. `timestamp` (nanoseconds) is that of the event's place in the batch, so it is
- * the stored record's where the event was accepted; else look the id up.
+ * The answer to one event. `number` and `name` are the ledger's own. In a chain that was found whole they
+ * stay `exists` for the first event and `linked_event_failed` for the others, and `outcome` says what that
+ * means. `timestamp` (nanoseconds) is that of the event's place in the batch. So it is the stored record's
+ * only if the event was accepted now; else look the id up.
  */
 export interface Result<Name extends string = string> {
   readonly number: number;
-  /** A name of the table, or of a later version's. */
+  /** A name of the table, or one of a later version. */
   readonly name: Name | (string & {});
   readonly timestamp: bigint;
   readonly outcome: Outcome;
-  /** Whether the event stands in the ledger with the fields sent, by whichever sending. */
+  /** Whether the event stands in the ledger with the fields sent, by whichever attempt. */
   readonly stands: boolean;
 }
 
@@ -132,7 +132,7 @@ export class Results<Name extends string = string> implements Iterable<Result<Na
     return this.items.map((result, place) => ({ place, result })).filter((it) => !it.result.stands);
   }
 
-  /** Throws `EventsRefused` where an event was refused. */
+  /** Throws `EventsRefused` if an event was refused. */
   throwIfRefused(): this {
     if (this.refused.length > 0) throw new EventsRefused(this.refused);
     return this;

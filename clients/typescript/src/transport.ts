@@ -1,11 +1,11 @@
 /**
- * Messages and their replies: the rule by which a message is sent again.
+ * Messages and their replies, and the rule for resending.
  *
- * Its answer is waited for until the call's deadline, as long as the connection stands. A message is
- * sent again, the same bytes, where its answer is not known: the connection was cut or could not be
- * made, the service was `unavailable`, or a proxy says that it did not get through. It is sent again too
- * where the service refused it for now, as `busy` or `too_much`. The ledger allows that for every
- * message: ids that are there are not booked again. Every other reply is final.
+ * A call waits for an answer until its deadline, as long as the connection stands. It resends the same
+ * bytes if the answer is not known: the connection was cut or refused, the service was `unavailable`, or a
+ * proxy reports that it got no answer. It also resends if the service refused the message for now, with
+ * `busy` or `too_much`. The ledger allows that for every message: it never books an id twice. Every other
+ * reply is final.
  */
 
 import { Unanswered } from "./errors.js";
@@ -13,11 +13,11 @@ import { Unreadable, objectIn } from "./wire.js";
 
 const FIRST_PAUSE = 50;
 const LONGEST_PAUSE = 2000;
-// With these a proxy says that it had no answer from the service, or takes no more for now.
+// A proxy uses these if it got no answer from the service, or accepts no more for now.
 const PROXY_STATUSES = [408, 429, 502, 503, 504];
-// Nothing was judged, and nothing is booked.
+// These book nothing.
 const NOT_NOW = ["busy", "too_much"];
-// No connection was made, so nothing was sent.
+// With these no connection was made, so nothing was sent.
 const NOT_CONNECTED = [
   "ECONNREFUSED",
   "ENOTFOUND",
@@ -27,7 +27,7 @@ const NOT_CONNECTED = [
   "UND_ERR_CONNECT_TIMEOUT",
 ];
 
-/** What is sent. `isBatch` where a lost answer leaves open whether something was booked. */
+/** A request. `isBatch`: after a lost answer it may be booked. */
 export interface Message {
   readonly method: "GET" | "POST";
   readonly path: string;
@@ -35,21 +35,21 @@ export interface Message {
   readonly isBatch: boolean;
 }
 
-/** What one sending brought. */
+/** The reply to one attempt. */
 export interface Answer {
   readonly status: number;
   readonly body: string;
   readonly retryAfter: string | null;
 }
 
-/** A final reply. `isRepeated` where an earlier sending of the message may have been done. */
+/** A final reply. `isRepeated`: an earlier attempt to send the message may have been executed. */
 export interface Reply {
   readonly status: number;
   readonly body: string;
   readonly isRepeated: boolean;
 }
 
-/** A sending that brought no final answer. `wasSent` where it may have come to the service and been done. */
+/** An attempt without a final answer. `wasSent`: the service may have executed it. */
 interface Failure {
   readonly text: string;
   readonly wasSent: boolean;
@@ -58,13 +58,13 @@ interface Failure {
   readonly cause?: unknown;
 }
 
-/** When a call has to be done, by `performance.now()`, and what ends it before that. */
+/** When a call has to end, by `performance.now()`, and what aborts it before. */
 export interface Until {
   readonly deadline: number;
   readonly signal: AbortSignal | undefined;
 }
 
-/** The name of a refusal, if the reply is one of the ledger's. */
+/** The name of the ledger's refusal, if the reply is one. */
 export function refusalIn(status: number, body: string): string | undefined {
   if (status === 200) return undefined;
   try {
@@ -76,7 +76,7 @@ export function refusalIn(status: number, body: string): string | undefined {
   }
 }
 
-/** What an answer says that only tells that there is none now, or undefined where it is final. */
+/** The failure that an answer reports, or undefined if the answer is final. */
 export function failureIn(answer: Answer): Failure | undefined {
   const name = refusalIn(answer.status, answer.body);
   const isNotNow = name !== undefined && NOT_NOW.includes(name);
@@ -87,7 +87,7 @@ export function failureIn(answer: Answer): Failure | undefined {
   return { text, wasSent: !isNotNow, retryAfter: seconds * 1000 };
 }
 
-/** Milliseconds to wait after so many failures: growing, and spread so that clients do not come at once. */
+/** The pause after a number of failures. Pauses grow, and are random so that clients spread out. */
 function pauseAfter(failures: number, retryAfter: number): number {
   const longest = Math.min(LONGEST_PAUSE, FIRST_PAUSE * 2 ** Math.min(failures - 1, 16));
   return Math.max(longest * (0.5 + Math.random() / 2), retryAfter * (1 + Math.random() / 2));
@@ -111,7 +111,7 @@ export class Transport {
     this.#free = connections;
   }
 
-  /** The final reply to a message. `Unanswered` where none came in time. */
+  /** The final reply to a message. `Unanswered` if none came in time. */
   async ask(message: Message, until: Until): Promise<Reply> {
     let wasSent = false;
     for (let failures = 1; ; failures++) {
@@ -133,7 +133,7 @@ export class Transport {
     }
   }
 
-  /** The answer to one sending. `Unanswered` where none came. */
+  /** The answer to one attempt. `Unanswered` if none came. */
   async askOnce(message: Message, until: Until): Promise<Answer> {
     const brought = await this.#send(message, until);
     if ("status" in brought) return brought;
@@ -183,7 +183,7 @@ export class Transport {
     return { status: response.status, body: await response.text(), retryAfter };
   }
 
-  /** Waits for one of the connections. False where the signal came first. */
+  /** Waits for one of the connections. False if the signal was first. */
   async #enter(signal: AbortSignal): Promise<boolean> {
     if (signal.aborted) return false;
     if (this.#free > 0) {
@@ -211,7 +211,7 @@ export class Transport {
   }
 }
 
-/** What an error of `fetch` says. Only some say that nothing was sent. */
+/** The failure that an error of `fetch` reports. Only some mean that nothing was sent. */
 function failureOf(error: unknown): Failure {
   const cause = (error as { cause?: { code?: string; message?: string } }).cause;
   const text = `${(error as Error).message}${cause ? `: ${cause.message || cause.code}` : ""}`;

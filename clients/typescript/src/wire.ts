@@ -46,7 +46,7 @@ const TRANSFER = [
   "timestamp",
 ];
 
-/** What a body that is no ledger's makes of reading it. */
+/** The body is not one that a ledger sends. */
 export class Unreadable extends Error {}
 
 /** `debitAccountId` is `debit_account_id` in a message. */
@@ -69,7 +69,7 @@ function checkNumber(place: string, name: string, value: unknown): asserts value
   }
 }
 
-/** A record as JSON. Fields that are 0 are left out, which means the same. */
+/** A record as JSON. Fields that are 0 are omitted, which means the same. */
 function recordJson(place: string, record: object): Json {
   const json: Json = {};
   for (const [name, value] of Object.entries(record)) {
