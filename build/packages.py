@@ -55,10 +55,13 @@ def commit():
 
 
 def gate(path):
-    """The last line of the gate's output."""
+    """The last line of the gate's output. Nothing is packed after a gate that failed."""
     if not path.is_file():
         return f"not kept: run `make test | tee {path}` first"
-    return path.read_text().rstrip("\n").rpartition("\n")[2]
+    last = path.read_text().rstrip("\n").rpartition("\n")[2]
+    if not last.endswith(" passed, 0 failed"):
+        sys.exit(f"{path} does not end with `N passed, 0 failed`, but with: {last}")
+    return last
 
 
 def manifest(program, printed):
