@@ -130,7 +130,7 @@ def number_after(number: int, page: QueryPage[Transfer]) -> int:
     """The number with which a follower continues after a page."""
     later = page.next or page.clock + 1
     if later < number:
-        raise LedgerError(f"the clock {page.clock} is before {number}: an older ledger")
+        raise LedgerError(f"the clock {page.clock} is behind {number}: an older ledger")
     return later
 
 

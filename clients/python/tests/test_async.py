@@ -97,7 +97,8 @@ class Tasks(unittest.IsolatedAsyncioTestCase):
             waiting = asyncio.create_task(
                 AsyncLedger(silent.url, KEY, deadline=2).lookup_accounts([1]))
             begun = time.monotonic()
-            await AsyncLedger(fake.url, KEY).lookup_accounts([1])
+            async with AsyncLedger(fake.url, KEY) as ledger:
+                await ledger.lookup_accounts([1])
             self.assertLess(time.monotonic() - begun, 1.5)
             with self.assertRaises(Unanswered):
                 await waiting
