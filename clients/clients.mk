@@ -2,4 +2,4 @@
 # `make clients CLIENTS=go SECONDS=10` tests one, with ten seconds of kills. LEDGERD= is the program.
 .PHONY: clients
 clients:
-	python3 clients/harness/all.py $(LEDGERD) --seconds $(or $(SECONDS),60) $(CLIENTS)
+	python3 clients/harness/all.py --seconds $(or $(SECONDS),60) $(LEDGERD) $(CLIENTS)
