@@ -49,7 +49,7 @@ def clients(room):
                [["node", "--test", str(CLIENTS / "typescript/test")]], [node],
                ["node", str(CLIENTS / "typescript/examples/wallet.mjs")]),
         Client("go", ["go"],
-               [["go", "vet", "./..."], ["go", "test", "./..."],
+               [["go", "vet", "./..."], ["go", "test", "-count=1", "./..."],
                 ["go", "build", "-o", f"{room}/", "./internal/driver", "./examples/wallet"]],
                [[f"{room}/driver"]], [f"{room}/wallet"], CLIENTS / "go"),
     ]

@@ -3,8 +3,8 @@ booked twice, and each chain stands whole or not at all.
 
     python3 clients/harness/kills.py LEDGERD [--seconds N] [--seed N] -- COMMAND..
 
-COMMAND is the client's driver (`driver.py`). Five drivers run at once: four send batches, and one follows
-the ledger. The seed determines the batches, but not when a kill comes."""
+COMMAND is the client's driver (`driver.py`). Five drivers run at once: four send batches, two of them over
+a relay that loses replies (`relay.py`), and one follows the ledger. The seed determines the batches, but not when a kill comes."""
 
 import argparse
 import collections
@@ -15,6 +15,7 @@ import threading
 import time
 
 from driver import Driver
+from relay import Relay
 from service import Service
 
 KEY = secrets.token_hex(32)
@@ -22,6 +23,7 @@ EURO, BANK, POOR, NOBODY = 978, "1", "5", "99"
 WALLETS = ("2", "3", "4", POOR)
 LINKED, PENDING, POST, VOID = 1, 2, 4, 8
 DESKS, MAX_128 = 4, str(2**128 - 1)
+LOST_ONE_IN = 10
 
 
 class Desk(threading.Thread):
@@ -156,7 +158,9 @@ def balances(standing):
 def storm(service, words, seed, seconds):
     """Runs the desks, and kills the service meanwhile."""
     until, drawn = time.monotonic() + seconds, random.Random(seed)
-    desks = [Desk(words, service.url, drawn.random(), until) for _ in range(DESKS)]
+    relay = Relay(service.port, drawn.random(), LOST_ONE_IN)
+    desks = [Desk(words, url, drawn.random(), until)
+             for url in (service.url, relay.url) * (DESKS // 2)]
     follower = Follower(words, service.url, until)
     for each in (*desks, follower):
         each.start()
@@ -172,7 +176,8 @@ def storm(service, words, seed, seconds):
         must(not each.is_alive(), "a call takes longer than its deadline")
         if each.failure:
             raise each.failure
-    return desks, follower, kills
+    relay.close()
+    return desks, follower, kills, relay.lost
 
 
 def compare(service, words, desks, follower):
@@ -218,12 +223,12 @@ def main():
             driver.ask(call="create_accounts", all=True, events=[
                 {"id": each, "ledger": EURO, "code": 1, "flags": 2 if each == POOR else 0}
                 for each in (BANK, *WALLETS)])
-        desks, follower, kills = storm(service, words.command, words.seed, words.seconds)
+        desks, follower, kills, lost = storm(service, words.command, words.seed, words.seconds)
         compare(service, words.command, desks, follower)
     told = sum((each.outcomes for each in desks), collections.Counter())
     for outcome in ("accepted", "found", "existed", "refused"):
         must(told[outcome], f"nothing was {outcome}: a longer run?")
-    print(f"kills: {kills} kills, {sum(len(each.batches) for each in desks)} batches answered,"
+    print(f"kills: {kills} kills, {lost} replies lost, {sum(len(each.batches) for each in desks)} batches answered,"
           f" {sum(each.unanswered for each in desks)} calls without an answer; events: "
           + ", ".join(f"{count} {outcome}" for outcome, count in sorted(told.items()))
           + "; nothing lost, nothing doubled")
