@@ -118,3 +118,5 @@ bench:
 
 alloc:
 	bench/alloc
+
+include build/packages.mk clients/clients.mk

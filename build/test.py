@@ -16,6 +16,7 @@ import contextlib
 import os
 import pathlib
 import re
+import shutil
 import subprocess
 import sys
 import threading
@@ -165,6 +166,13 @@ def python(step):
     step.count(status, ran - failed, failed)
 
 
+def clients(step):
+    """The other clients whose languages are there: their cases, and seconds of kills."""
+    for name, call in ("typescript", "node"), ("go", "go"):
+        if shutil.which(call):
+            look("clients/harness/all.py", LEDGERD, "--seconds", "10", name)(step)
+
+
 def examples(step):
     """The examples that are tried over a service."""
     for it in "following/try_following", "trial-balance/try_trial_balance", "clients/try_beginners":
@@ -188,7 +196,7 @@ def all_steps():
     for crate, name in checked.crates_of_tests().items():
         act = tests_of(crate, checked.MADE / f"{name}-unproved")
         steps += [Step(crate.name, act, [f"build-{name}"])]
-    over = [trials, python, examples, session, answers]
+    over = [trials, python, clients, examples, session, answers]
     return [*steps, *[Step(it.__name__, it, ["build-ledgerd"]) for it in over]]
 
 

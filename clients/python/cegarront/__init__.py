@@ -10,6 +10,7 @@ It needs the standard library alone, and Python 3.9 or later. Numbers are `int`:
 numbers in a currency's smallest unit, timestamps are nanoseconds since 1970, ids have 128 bits.
 """
 
+from .aio import AsyncLedger
 from .errors import BadReply, EventsRefused, LedgerError, Refused, Unanswered
 from .ids import new_id
 from .ledger import Ledger
@@ -44,6 +45,7 @@ __all__ = [
     "AccountFilter",
     "AccountFlag",
     "AccountResult",
+    "AsyncLedger",
     "BadReply",
     "Balance",
     "Entry",

@@ -1,8 +1,10 @@
-"""What a call raises, beside `TypeError` and `ValueError` for what cannot be sent."""
+"""What a call raises, besides `TypeError` and `ValueError` for invalid arguments."""
 
 from __future__ import annotations
 
 from typing import TYPE_CHECKING, Tuple
+
+from .chains import LINKED_EVENT_FAILED
 
 if TYPE_CHECKING:
     from .results import Result
@@ -47,11 +49,14 @@ class BadReply(LedgerError):
 class EventsRefused(LedgerError):
     """Events of a batch were refused: `refused` has the place and the result of each.
 
-    The batch was answered, so its other events stand where their results say so.
+    `first` is the one that caused the first failure, not one that fell with its chain. The batch
+    was answered, so its other events stand if their results say so.
     """
 
     def __init__(self, refused: Tuple[Tuple[int, Result], ...]) -> None:
-        told = ", ".join(f"event {place}: {result.name}" for place, result in refused[:5])
-        more = f", and {len(refused) - 5} more" if len(refused) > 5 else ""
-        super().__init__(told + more)
+        by_itself = (each for each in refused if each[1].number != LINKED_EVENT_FAILED)
+        self.first = next(by_itself, refused[0])
         self.refused = refused
+        place, result = self.first
+        more = f", one of {len(refused)} events refused" if len(refused) > 1 else ""
+        super().__init__(f"event {place}: {result.name}{more}")

@@ -154,6 +154,12 @@ class Account(_Record):
     credits_posted: int = 0
     timestamp: int = 0
 
+    @property
+    def balance(self) -> int:
+        """The posted credits minus the posted debits: what a wallet holds. A bank's account is
+        usually negative."""
+        return self.credits_posted - self.debits_posted
+
 
 @dataclass(frozen=True)
 class Transfer(_Record):

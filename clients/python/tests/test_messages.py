@@ -14,6 +14,7 @@ from cegarront import (
     Balance,
     Entry,
     EntryKind,
+    EventsRefused,
     FilterFlag,
     Ledger,
     Outcome,
@@ -177,6 +178,16 @@ class Replies(unittest.TestCase):
             with self.subTest(reply), self.assertRaises(BadReply) as raised:
                 self.told(reply, lambda ledger: ledger.create_transfers([PAID]))
             self.assertTrue(raised.exception.may_be_booked)
+
+    def test_what_failed_first_is_told_first(self):
+        told = self.told(results(0, 2, 55, 2, 44), lambda ledger: ledger.create_transfers(
+            [PAID, *[dataclasses.replace(PAID, id=each, flags=TransferFlag.LINKED)
+                     for each in (1, 2)], dataclasses.replace(PAID, id=3),
+             dataclasses.replace(PAID, id=4)]))
+        with self.assertRaises(EventsRefused) as raised:
+            told.raise_for_refused()
+        self.assertEqual(str(raised.exception), "event 2: result_55, one of 4 events refused")
+        self.assertEqual([place for place, _ in raised.exception.refused], [1, 2, 3, 4])
 
     def test_a_result_of_a_later_version(self):
         reply = ok({"clock": "1", "results": [

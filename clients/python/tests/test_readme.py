@@ -11,11 +11,11 @@ from unittest import mock
 from .fake import free_port
 from .program import end_of, program, run, wait_for
 
-README = (pathlib.Path(__file__).parents[1] / "README.md").read_text()
+README = pathlib.Path(__file__).resolve().parents[1] / "README.md"
 
 
 def snippets(kind):
-    return re.findall(rf"^```{kind}\n(.*?)^```$", README, re.M | re.S)
+    return re.findall(rf"^```{kind}\n(.*?)^```$", README.read_text(), re.M | re.S)
 
 
 class Readme(unittest.TestCase):
@@ -26,12 +26,14 @@ class Readme(unittest.TestCase):
         (lines,) = snippets("sh")
         lines = lines.replace("8080", str(self.port)) + 'echo "$LEDGER_KEY $LEDGER_URL $!"\n'
         path = folder + os.pathsep + os.environ["PATH"]
+        os.symlink(README.parents[1], os.path.join(folder, "clients"))
         with open(os.path.join(folder, "told"), "w+") as told:
             subprocess.run(["sh", "-euc", lines], cwd=folder, env={**os.environ, "PATH": path},
                            stdout=told, check=True, timeout=60)
             told.seek(0)
-            added, words = told.read().splitlines()
+            added, wallet, words = told.read().splitlines()
         self.assertEqual(added, "added shop")
+        self.assertEqual(wallet, "again: existed, balance: 3500")
         key, url, process = words.split()
         self.addCleanup(end_of, int(process))
         wait_for(self.port, None)

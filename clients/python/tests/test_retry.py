@@ -271,6 +271,14 @@ class Pauses(unittest.TestCase):
             self.assertGreaterEqual(min(drawn), longest / 2)
             self.assertGreater(len(set(drawn)), 100)
 
+    def test_what_the_service_asks_for_is_kept_and_spread(self):
+        cause = transport.NoAnswer("busy (503)", was_sent=False, retry_after=3)
+        drawn = [transport.Attempts(transport.Message("POST", "/transfers"), time.monotonic() + 60)
+                 .pause_after(cause) for _ in range(200)]
+        self.assertGreaterEqual(min(drawn), 3)
+        self.assertLessEqual(max(drawn), 4.5)
+        self.assertGreater(len(set(drawn)), 100)
+
     def test_they_are_kept(self):
         with Fake([cut(), cut(), cut(), say(results(0))]) as fake, \
                 mock.patch.object(transport.time, "sleep", wraps=time.sleep) as slept:

@@ -1,0 +1,5 @@
+# `make clients` tests the clients whose languages are installed, and names the others first.
+# `make clients CLIENTS=go SECONDS=30` tests one, with half a minute of kills. LEDGERD= is the program.
+.PHONY: clients
+clients:
+	python3 clients/harness/all.py --seconds $(or $(SECONDS),60) $(LEDGERD) $(CLIENTS)

@@ -1,0 +1,3 @@
+module cegarront
+
+go 1.19

@@ -1,0 +1,284 @@
+/** The routes of the service, as methods. */
+import { accountStands, chainsOf, idsToLookUp, mayStand, transferStands } from "./chains.js";
+import { BadReply, LedgerError, Refused } from "./errors.js";
+import { FilterFlag, MAX_EVENTS, QueryFlag } from "./records.js";
+import { Results, accountResults, transferResults } from "./results.js";
+import { Transport, failureIn, refusalIn } from "./transport.js";
+import * as wire from "./wire.js";
+const BOTH_SIDES = FilterFlag.debits | FilterFlag.credits;
+const HEALTH_WITHIN = 10000;
+/**
+ * A tenant's ledger, at an address and with the tenant's key (64 hexadecimal digits).
+ *
+ * A call waits for its answer until its deadline, as long as the connection stands. It resends the same
+ * bytes, after growing pauses, if the connection was cut or refused, if the service is `unavailable`, and
+ * if it replies `busy` or `too_much`. That never books an event twice.
+ *
+ * Calls throw `Unanswered` if no answer came before the deadline, `Refused` with the refusal's name if the
+ * service refuses the request, `BadReply` if something other than a ledger answers, and `TypeError` or
+ * `RangeError`, before anything is sent, for invalid arguments.
+ */
+export class Ledger {
+    #transport;
+    #deadline;
+    constructor(url, key, options = {}) {
+        const { deadline = 60000, connections = 16 } = options;
+        if (!/^[0-9A-Fa-f]{64}$/.test(key))
+            throw new TypeError("the key is not 64 hexadecimal digits");
+        if (!(deadline > 0) || !(connections >= 1)) {
+            throw new RangeError("deadline is above 0, and connections are at least 1");
+        }
+        this.#transport = new Transport(url, key, connections);
+        this.#deadline = deadline;
+    }
+    /** Opens accounts, as one batch of at most 1,000, and returns a result for each. */
+    async createAccounts(accounts, options = {}) {
+        const until = this.#until(options);
+        return this.#batch("/accounts", accounts, accountResults.exists, until, async (chain) => {
+            const ids = chain.map((each) => each.id);
+            const found = await this.#found("/accounts/lookup", ids, "accounts", wire.accountIn, until);
+            return chain.every((each) => accountStands(each, found.get(each.id)));
+        });
+    }
+    /**
+     * Sends transfers, posts and voids, as one batch of at most 1,000, and returns a result for each. An
+     * empty batch moves the clock, so that holds that are due expire.
+     */
+    async createTransfers(transfers, options = {}) {
+        const until = this.#until(options);
+        return this.#batch("/transfers", transfers, transferResults.exists, until, async (chain) => {
+            const ids = idsToLookUp(chain);
+            const found = await this.#found("/transfers/lookup", ids, "transfers", wire.transferIn, until);
+            return chain.every((each) => transferStands(each, found));
+        });
+    }
+    /**
+     * The accounts that exist among at most 1,000 ids, in the order asked. Balances are those at the
+     * ledger's clock: they include a hold that is due until the next batch, or until the service releases
+     * it, within seconds.
+     */
+    lookupAccounts(ids, options = {}) {
+        const body = () => wire.idsBody(ids);
+        return this.#page("/accounts/lookup", body, "accounts", wire.accountIn, this.#until(options));
+    }
+    /**
+     * The transfers that exist among at most 1,000 ids, in the order asked. A missing one may still be on
+     * its way, if its batch got no answer.
+     */
+    lookupTransfers(ids, options = {}) {
+        const body = () => wire.idsBody(ids);
+        return this.#page("/transfers/lookup", body, "transfers", wire.transferIn, this.#until(options));
+    }
+    /** The state of the pending transfers with these ids. Other ids are omitted. */
+    lookupPending(ids, options = {}) {
+        const body = () => wire.idsBody(ids);
+        return this.#page("/pending/lookup", body, "pending", wire.holdIn, this.#until(options));
+    }
+    /** A page of an account's transfers. `Refused`: `no_account`. */
+    getAccountTransfers(asked, options = {}) {
+        const body = () => wire.filterBody(ofAccount(asked), 7);
+        return this.#page("/history/transfers", body, "transfers", wire.transferIn, this.#until(options));
+    }
+    /** A page of an account's balances after its transfers. `Refused`: `no_account`, `no_history`. */
+    getAccountBalances(asked, options = {}) {
+        const body = () => wire.filterBody(ofAccount(asked), 7);
+        return this.#page("/history/balances", body, "balances", wire.balanceIn, this.#until(options));
+    }
+    /** A page of the accounts that match the filter, in the order in which they were opened. */
+    queryAccounts(asked = {}, options = {}) {
+        return this.#query("/query/accounts", asked, "accounts", wire.accountIn, options);
+    }
+    /** A page of the transfers that match the filter, in the order in which they were accepted. */
+    queryTransfers(asked = {}, options = {}) {
+        return this.#query("/query/transfers", asked, "transfers", wire.transferIn, options);
+    }
+    /** A page of the open pending transfers, in the order in which they were accepted. */
+    openPending(asked = {}, options = {}) {
+        return this.#query("/pending/open", asked, "pending", wire.openHoldIn, options);
+    }
+    /** All transfers of an account that match the filter. Pages are fetched as needed. */
+    iterAccountTransfers(asked, options = {}) {
+        return allOf(asked, (page) => this.getAccountTransfers(page, options));
+    }
+    /** All balances of an account that match the filter, fetched in the same way. */
+    iterAccountBalances(asked, options = {}) {
+        return allOf(asked, (page) => this.getAccountBalances(page, options));
+    }
+    /** All accounts that match the filter; each page has the balances of its own time. */
+    iterAccounts(asked = {}, options = {}) {
+        return allPages(asked, (page) => this.queryAccounts(page, options));
+    }
+    /** All transfers that match the filter. */
+    iterTransfers(asked = {}, options = {}) {
+        return allPages(asked, (page) => this.queryTransfers(page, options));
+    }
+    /** All pending transfers that are open. */
+    iterOpenPending(asked = {}, options = {}) {
+        return allPages(asked, (page) => this.openPending(page, options));
+    }
+    /**
+     * The transfers accepted since `number`, each once and in order, in pages of at most `limit`. Each page
+     * has the next number to store. Start with 0.
+     *
+     * It ends when there is no more for now; call it again later, with the number stored last. Store the
+     * number together with your own work, in one step: then a crash neither loses nor repeats anything.
+     *
+     * `LedgerError` if the ledger's clock is before the number: an older copy of its file was restored, and
+     * the follower has to start over.
+     */
+    async *follow(number = 0n, options = {}) {
+        const { limit = MAX_EVENTS } = options;
+        for (;;) {
+            const page = await this.queryTransfers({ timestampMin: number, limit }, options);
+            const later = page.next || page.clock + 1n;
+            if (later < number) {
+                throw new LedgerError(`the clock ${page.clock} is before ${number}: an older ledger`);
+            }
+            if (later > number)
+                yield { transfers: page.items, number: later };
+            if (page.next === 0n)
+                return;
+            number = later;
+        }
+    }
+    /** All entries of an account, oldest first, fetched at once: some 100 bytes per entry. */
+    async statement(accountId, options = {}) {
+        const path = wire.statementPath(accountId);
+        const message = { method: "GET", path, isBatch: false };
+        const reply = await this.#transport.ask(message, this.#until(options));
+        return readBody(message, reply, wire.entriesIn);
+    }
+    /** Whether the service serves. It asks once; `Unanswered` if nothing answers within 10 seconds. */
+    async health(options = {}) {
+        const message = { method: "GET", path: "/health", isBatch: false };
+        const until = this.#until(options);
+        const deadline = Math.min(until.deadline, performance.now() + HEALTH_WITHIN);
+        const answer = await this.#transport.askOnce(message, { ...until, deadline });
+        if (failureIn(answer) !== undefined)
+            return false;
+        const reply = { ...answer, isRepeated: false };
+        if (readBody(message, reply, wire.objectIn).serving !== true) {
+            throw new BadReply("/health: not what is told of health");
+        }
+        return true;
+    }
+    #until(options) {
+        return { deadline: performance.now() + this.#deadline, signal: options.signal };
+    }
+    async #batch(path, events, exists, until, stands) {
+        const body = wire.eventsBody(events);
+        const message = { method: "POST", path, body, isBatch: true };
+        const reply = await this.#transport.ask(message, until);
+        const { clock, results } = readBody(message, reply, (text) => {
+            const told = wire.objectIn(text);
+            const listed = wire.listIn(told, "results", wire.resultIn);
+            return { clock: wire.digitsIn(told.clock), results: listed };
+        });
+        if (results.length !== events.length) {
+            throw new BadReply(`${results.length} results for ${events.length} events`, true);
+        }
+        const outcome = reply.isRepeated ? "found" : "existed";
+        for (const [from, to] of chainsOf(events)) {
+            const numbers = results.slice(from, to).map((each) => each.number);
+            const isThere = numbers.length === 1 && numbers[0] === exists;
+            if (isThere || (mayStand(numbers, exists) && (await stands(events.slice(from, to))))) {
+                for (let at = from; at < to; at++)
+                    results[at] = { ...results[at], outcome, stands: true };
+            }
+        }
+        return new Results(clock, results);
+    }
+    /**
+     * The records that exist of a chain that was answered, by their ids. If the look-up fails, its error
+     * says that the chain may be booked.
+     */
+    async #found(path, ids, name, read, until) {
+        const found = new Map();
+        try {
+            for (let first = 0; first < ids.length; first += MAX_EVENTS) {
+                const body = () => wire.idsBody(ids.slice(first, first + MAX_EVENTS));
+                const page = await this.#page(path, body, name, read, until);
+                for (const each of page.items)
+                    found.set(each.id, each);
+            }
+        }
+        catch (error) {
+            if (error instanceof LedgerError)
+                error.mayBeBooked = true;
+            throw error;
+        }
+        return found;
+    }
+    async #page(path, body, name, read, until) {
+        const message = { method: "POST", path, body: body(), isBatch: false };
+        const reply = await this.#transport.ask(message, until);
+        return readBody(message, reply, (text) => {
+            const told = wire.objectIn(text);
+            return { clock: wire.digitsIn(told.clock), items: wire.listIn(told, name, read) };
+        });
+    }
+    async #query(path, asked, name, read, options) {
+        const body = wire.filterBody({ ...asked, limit: limitOf(asked), flags: asked.flags ?? 0 }, 1);
+        const message = { method: "POST", path, body, isBatch: false };
+        const reply = await this.#transport.ask(message, this.#until(options));
+        return readBody(message, reply, (text) => {
+            const told = wire.objectIn(text);
+            const items = wire.listIn(told, name, read);
+            return { clock: wire.digitsIn(told.clock), items, next: wire.digitsIn(told.next) };
+        });
+    }
+}
+/** What the reply to a message says. */
+function readBody(message, reply, read) {
+    if (reply.status !== 200) {
+        const name = refusalIn(reply.status, reply.body);
+        if (name !== undefined) {
+            throw new Refused(reply.status, name, message.isBatch && reply.isRepeated);
+        }
+        throw new BadReply(`status ${reply.status} without a refusal's name`, message.isBatch);
+    }
+    try {
+        return read(reply.body);
+    }
+    catch (error) {
+        if (!(error instanceof wire.Unreadable))
+            throw error;
+        throw new BadReply(`${message.path}: ${error.message}`, message.isBatch, { cause: error });
+    }
+}
+function limitOf(asked) {
+    return asked.limit ?? MAX_EVENTS;
+}
+function ofAccount(asked) {
+    return { ...asked, limit: limitOf(asked), flags: asked.flags ?? BOTH_SIDES };
+}
+/** The items of a page, and of those after it. */
+async function* allOf(asked, pageOf) {
+    for (;;) {
+        const { items } = await pageOf(asked);
+        yield* items;
+        if (items.length < limitOf(asked))
+            return;
+        const last = items[items.length - 1].timestamp;
+        if (((asked.flags ?? 0) & FilterFlag.newestFirst) === 0) {
+            asked = { ...asked, timestampMin: last + 1n };
+        }
+        else if (last > 1n) {
+            asked = { ...asked, timestampMax: last - 1n };
+        }
+        else {
+            return; // A bound of 0 would be none.
+        }
+    }
+}
+/** The items of a page, and of all pages after it. */
+async function* allPages(asked, pageOf) {
+    for (;;) {
+        const { items, next } = await pageOf(asked);
+        yield* items;
+        if (next === 0n)
+            return;
+        const isNewestFirst = ((asked.flags ?? 0) & QueryFlag.newestFirst) !== 0;
+        asked = { ...asked, [isNewestFirst ? "timestampMax" : "timestampMin"]: next };
+    }
+}
