@@ -3,7 +3,7 @@
     python3 bench/edit_costs.py [FILE..]
 
 FILE is what `make prove` printed, or the file in which `make run` keeps how long each crate took,
-out/prove/seconds.json, which is read if no FILE is given. Of several figures of a crate the greatest
+out/prove/seconds.json, which is read if no FILE is given. The greatest of several figures of a crate
 counts, since the others may be of runs that took over what was proved. Where a crate has no figure,
 there is a dash for it and for each sum that it belongs to."""
 
@@ -45,7 +45,7 @@ def chain(crate, above, seconds):
     return seconds.get(crate, math.nan) + longest
 
 
-def told(number):
+def shown(number):
     return "–" if math.isnan(number) else f"{number:,}"
 
 
@@ -67,7 +67,7 @@ def table(seconds):
         cells = [seconds.get(it, math.nan),
                  sum(seconds.get(user, math.nan) for user in [it, *users]),
                  chain(it, above, seconds)]
-        alone, whole, longest = map(told, cells)
+        alone, whole, longest = map(shown, cells)
         row = f"| `{it}` | {lines_of(it):,} | {alone} | {len(users)} | {whole} | {longest} |\n"
         rows.append((-len(users), it, row))
     lacking = sorted(program - set(seconds))
