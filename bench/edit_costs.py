@@ -1,14 +1,16 @@
 """Writes what an edit of each crate costs into the table of docs/DEVELOPING.md.
 
-    python3 bench/edit_costs.py [SECONDS]
+    python3 bench/edit_costs.py [FILE..]
 
-SECONDS is the file in which `build/prove.py` keeps how long each crate took when it was proved last,
-out/prove/seconds.json if left out. For the figures from nothing, give that of a build that began with
-nothing. Where the file lacks a crate, there is a dash for it and for each sum that it belongs to."""
+FILE is what `make prove` printed, or the file in which `make run` keeps how long each crate took,
+out/prove/seconds.json, which is read if no FILE is given. The greatest of several figures of a crate
+counts, since the others may be of runs that took over what was proved. Where a crate has no figure,
+there is a dash for it and for each sum that it belongs to."""
 
 import json
 import math
 import pathlib
+import re
 import sys
 
 TOP = pathlib.Path(__file__).resolve().parent.parent
@@ -43,7 +45,7 @@ def chain(crate, above, seconds):
     return seconds.get(crate, math.nan) + longest
 
 
-def told(number):
+def shown(number):
     return "–" if math.isnan(number) else f"{number:,}"
 
 
@@ -65,7 +67,7 @@ def table(seconds):
         cells = [seconds.get(it, math.nan),
                  sum(seconds.get(user, math.nan) for user in [it, *users]),
                  chain(it, above, seconds)]
-        alone, whole, longest = map(told, cells)
+        alone, whole, longest = map(shown, cells)
         row = f"| `{it}` | {lines_of(it):,} | {alone} | {len(users)} | {whole} | {longest} |\n"
         rows.append((-len(users), it, row))
     lacking = sorted(program - set(seconds))
@@ -74,9 +76,19 @@ def table(seconds):
     return HEAD + "".join(row for *_, row in sorted(rows))
 
 
+def seconds_in(path):
+    """The seconds of each crate that a file has, in either form."""
+    text = pathlib.Path(path).read_text()
+    if text.startswith("{"):
+        return json.loads(text).items()
+    return [(name, int(it)) for name, it in re.findall(r"^proof (\w+): \w+, (\d+) s$", text, re.M)]
+
+
 def main():
-    path = sys.argv[1] if len(sys.argv) > 1 else TOP / "out/prove/seconds.json"
-    seconds = json.loads(pathlib.Path(path).read_text())
+    seconds = {}
+    for path in sys.argv[1:] or [TOP / "out/prove/seconds.json"]:
+        for crate, took in seconds_in(path):
+            seconds[crate] = max(took, seconds.get(crate, 0))
     text = PAGE.read_text()
     before, begin, rest = text.partition(BEGIN)
     _, end, behind = rest.partition(END)
