@@ -196,6 +196,20 @@ def cents(text):
     return int(text.replace(",", "").replace(".", "").replace("\u2212", "-"))
 
 
+def heights_at_midnight(path):
+    """Where a line of November stands as each of its days begins in Berlin."""
+    begun, *steps, end = path.removeprefix("M").split("H")
+    left, height = map(float, begun.split())
+    span = int(moment(LAST_MOMENT.replace(" ", "T"))) - int(moment("2026-10-31T23:00"))
+    heights = []
+    for day in range(30):
+        passed = left + day * 86400 * 10**9 / span * (float(end) - left)
+        while steps and float(steps[0].split("V")[0]) < passed - 0.5:
+            height = float(steps.pop(0).split("V")[-1])
+        heights.append(height)
+    return heights
+
+
 def try_balance_picture(trial):
     """the line of a balance goes through the balances that were booked, and its table has them"""
     business = trial.ledger.business
@@ -206,12 +220,11 @@ def try_balance_picture(trial):
         first, last = cents(words[0]), cents(words[len(lines) - 1])
         a_cent = (lines[-1] - lines[0]) / (last - first)
         sign = -1 if account == BANK else 1
-        steps = [part.split("V")[-1] for part in path.split("H")]
-        for place, net in ((0, business.net(account, NOVEMBER)), (-2, business.net(account))):
-            height = float(steps[place].split()[-1])
+        for day, height in enumerate(heights_at_midnight(path)):
+            net = business.net(account, NOVEMBER + datetime.timedelta(day))
             wanted = lines[0] + (sign * net - first) * a_cent
             if abs(height - wanted) > 1:
-                raise Failed(f"{account}: {net} stands at {height}, not at {wanted}")
+                raise Failed(f"{account}: {net} after {day} days is at {height}, not at {wanted}")
         want(label.endswith(f"from {balance(business.net(account, NOVEMBER), 2)} to "
                             f"{balance(business.net(account), 2)}"), True, label)
         table = trial.rows("#balance-picture")

@@ -19,7 +19,7 @@ import time
 
 import served
 from browser import Browser, Failed
-from busy import BUSY, Busy
+from busy import BUSY, PATIENCE, Busy
 from business import Business
 from keyboard import try_keyboard
 from ledger import Ledger
@@ -185,6 +185,7 @@ def market(ledger, trial):
 
 
 def busy(ledger, trial):
+    trial.browser.patience = PATIENCE
     trial.busy = Busy(ledger)
     trial.busy.book()
 
