@@ -82,7 +82,9 @@ def look_at_python(file):
     while (root / "__init__.py").exists():
         root, package = root.parent, [root.name, *package]
     tree = ast.parse(text)
+    # An example of the client is started with its package on the path, as its README says.
     sys.path[0], sys.argv = str(root), [str(file)]
+    sys.path.append(str(TOP / "clients/python"))
     left = [it for it in tree.body if not is_work(it)]
     made = types.ModuleType("script")
     made.__file__, made.__package__ = str(file), ".".join(package)

@@ -39,7 +39,7 @@ class Browser:
     """One page in a browser of its own."""
 
     def __init__(self, log):
-        self.port, self.session = free_port(), None
+        self.port, self.session, self.patience = free_port(), None, PATIENCE
         self.driver = subprocess.Popen(
             [program("chromedriver"), f"--port={self.port}"], stdout=log, stderr=log,
             env={**os.environ, "LANG": "C.UTF-8"})
@@ -101,14 +101,14 @@ class Browser:
 
     def wait(self, script, *arguments, why):
         """What the body answers, once it is neither null nor false."""
-        end = time.monotonic() + PATIENCE
+        end = time.monotonic() + self.patience
         while time.monotonic() < end:
             found = self.run(script, *arguments)
             if found not in (None, False):
                 return found
             time.sleep(0.05)
         said = self.run("return document.body.innerText")
-        raise Failed(f"{why}: waited {PATIENCE} s. The page says:\n{said}")
+        raise Failed(f"{why}: waited {self.patience} s. The page says:\n{said}")
 
     def _element(self, css):
         found = self.command("element", using="css selector", value=css)

@@ -3,7 +3,7 @@
     python3 console/constant.py [--check]
 
 It writes the page, its length and the digests of its script and style into `src/page.rt`, and as
-definitions into `specs/Page.antt`."""
+definitions into `specs/Page.antt`; and its length into the example of `docs/MESSAGES.md`."""
 
 import re
 import sys
@@ -11,6 +11,8 @@ import sys
 from served import PAGE, hash_of, headers_of
 
 CRATE = PAGE.parent.parent / "crates/console"
+MESSAGES = PAGE.parent.parent / "docs/MESSAGES.md"
+LENGTH = re.compile(r"(?<=content-length: )\d+(?=\n +content-type: text/html)")
 MADE = "Made of console/page.html by console/constant.py."
 
 CODE = '''//! The reply with the console's page. {made}
@@ -57,14 +59,15 @@ def spelled(page):
 
 
 def made_of(page):
-    """The files of the crate that are made of the page, by their places."""
+    """The files that are made of the page, by their places."""
     if not page.isascii() or "\r" in page:
         sys.exit("the page must be ASCII, with line feeds alone")
     parts = {"made": MADE, "head": head_of(page), "length": len(page),
              "script": hash_of(page, "script"), "style": hash_of(page, "style"),
              "spelled": spelled(page)}
     return {CRATE / "src/page.rt": CODE.format(**parts),
-            CRATE / "specs/Page.antt": SPEC.format(**parts)}
+            CRATE / "specs/Page.antt": SPEC.format(**parts),
+            MESSAGES: LENGTH.sub(str(len(page)), MESSAGES.read_text(encoding="utf-8"))}
 
 
 def main():

@@ -1,7 +1,9 @@
 """A `ledgerd` over a new file, with the worked session played to it, and what it tells."""
 
+import glob
 import http.client
 import json
+import os
 import pathlib
 import secrets
 import subprocess
@@ -38,11 +40,25 @@ MORE_TRANSFERS = [
 ]
 
 
-class Ledger:
-    """A running service with two tenants; `key` is the one that the tests look at."""
+def faked(clock):
+    """The environment of a program whose time of day is what stands in a file (libfaketime)."""
+    library = next(iter(glob.glob("/usr/lib/*/faketime/libfaketime.so.1")), None)
+    if not library:
+        raise Failed("needs libfaketime (Debian's package faketime)")
+    return {**os.environ, "LD_PRELOAD": library, "FAKETIME_TIMESTAMP_FILE": str(clock),
+            "FAKETIME_NO_CACHE": "1", "FAKETIME_DONT_FAKE_MONOTONIC": "1", "TZ": "UTC"}
 
-    def __init__(self, ledgerd, folder, log):
+
+class Ledger:
+    """A running service with two tenants; `key` is the one that the tests look at. With a moment,
+    such as 2026-09-01 08:00:00, its time of day is that one until another is set."""
+
+    def __init__(self, ledgerd, folder, log, moment=None):
         self.folder, self.log, self.port = pathlib.Path(folder), log, free_port()
+        self.environment = None
+        if moment:
+            self.environment = faked(self.folder / "clock")
+            self.set_moment(moment)
         self.key, self.other_key = secrets.token_hex(32), secrets.token_hex(32)
         self.program, db = ledgerd, str(self.folder / "ledger.db")
         for name, key in (("north-desk", self.key), ("south-hall", self.other_key)):
@@ -60,11 +76,15 @@ class Ledger:
         self.served.kill()
         self.served.wait()
 
+    def set_moment(self, moment):
+        (self.folder / "clock").write_text(f"{moment}\n")
+
     def serve(self):
         """Serves the file, and waits until a message is answered."""
         self.served = subprocess.Popen(
             [self.program, "serve", "--db", str(self.folder / "ledger.db"), "--port",
-             str(self.port), "--requests", str(2**64 - 1)], stderr=self.log)
+             str(self.port), "--requests", str(2**64 - 1)],
+            stderr=self.log, env=self.environment)
         for _ in range(300):
             try:
                 return self.ask("POST", "/accounts/lookup", [])
@@ -85,11 +105,23 @@ class Ledger:
             raise Failed(f"{method} {path}: {reply.status} {told}")
         return json.loads(told) if reply.getheader("content-type") == "application/json" else told
 
+    def pages(self, path, records):
+        """All records of a query without bounds, page by page."""
+        found, since = [], "0"
+        while True:
+            page = self.ask("POST", path, {"limit": 1000, "timestamp_min": since})
+            found += page[records]
+            if page["next"] == "0":
+                return found
+            since = page["next"]
+
     def batch(self, path, events):
+        """Sends events, each of which must be accepted; their timestamps."""
         results = self.ask("POST", path, events)["results"]
         names = [result["result"] for result in results]
         if names != ["ok"] * len(events):
             raise Failed(f"{path}: {names}")
+        return [result["timestamp"] for result in results]
 
     def play(self):
         """The requests of the worked session, and what stands above beside it."""

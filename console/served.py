@@ -83,10 +83,18 @@ class Handler(http.server.BaseHTTPRequestHandler):
     do_POST = hand_on
 
 
+class Server(http.server.ThreadingHTTPServer):
+    """A browser that gives a request up, as it does for another view, is no fault."""
+
+    def handle_error(self, request, client_address):
+        if not isinstance(sys.exc_info()[1], ConnectionError):
+            super().handle_error(request, client_address)
+
+
 def server(ledgerd_port, port=0):
     """A server that is not running yet; with no port it takes a free one."""
     handler = type("Handler", (Handler,), {"ledgerd_port": ledgerd_port})
-    return http.server.ThreadingHTTPServer(("127.0.0.1", port), handler)
+    return Server(("127.0.0.1", port), handler)
 
 
 def main():

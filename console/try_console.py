@@ -1,25 +1,33 @@
-"""Tries the console in chromium: a new ledger with the worked session and more, its page, and each
-view compared with what the service answers over HTTP.
+"""Tries the console in chromium, and compares each view with what the service answers over HTTP
+and with what was booked: over the worked session and more, over a small market of three months, and
+over 10,000 accounts and 200,000 transfers while more come.
 
-    python3 console/try_console.py LEDGERD [PICTURES]
+    python3 console/try_console.py LEDGERD [PICTURES] [--served] [--only NAME..]
 
-It needs chromium with its driver, curl, and a shell. PICTURES is a folder for screenshots."""
+It needs chromium with its driver, libfaketime, curl, and a shell. PICTURES is a folder for
+screenshots. With --served the page is the file console/page.html, handed out by served.py, and not
+the one that is part of LEDGERD. NAME is that of a trial, or of its ledger: session, market, busy."""
 
+import argparse
+import contextlib
 import pathlib
 import secrets
 import socket
-import sys
 import tempfile
 import threading
+import time
 
 import served
 from browser import Browser, Failed
+from busy import BUSY, PATIENCE, Busy
+from business import Business
 from keyboard import try_keyboard
 from ledger import Ledger
 from looks import try_looks
+from market import LAST_MOMENT, MARKET
 from trial import Trial, want
-from views import (account_row, try_accounts, try_all, try_many, try_met, try_pages, try_statement,
-                   try_transfer, try_trial_balance)
+from views import (try_accounts, try_many, try_search, try_sorted, try_statement, try_transfer,
+                   try_trial_balance)
 
 
 def told_at(port, message):
@@ -33,7 +41,9 @@ def told_at(port, message):
 def try_page(trial):
     """the page is the same bytes for everybody, and those of the server for its development"""
     port, page = trial.ledger.port, served.PAGE.read_text(encoding="utf-8")
-    for key in ("", f"x-ledger-key: {trial.ledger.key}\r\n", "x-ledger-key: 1\r\n"):
+    is_served = trial.origin != f"http://127.0.0.1:{port}"
+    keys = ("", f"x-ledger-key: {trial.ledger.key}\r\n", "x-ledger-key: 1\r\n")
+    for key in () if is_served else keys:
         told = told_at(port, f"GET / HTTP/1.1\r\n{key}\r\n".encode())
         want(told == served.reply_of(page), True, f"the page with {key!r}")
     with served.server(port) as development:
@@ -73,9 +83,8 @@ def try_key(trial):
 
 
 def try_following(trial):
-    """a transfer that is made meanwhile appears once, with accounts that were not in the list"""
+    """a transfer that is made meanwhile appears once, whichever accounts were looked at"""
     trial.open()
-    trial.add("1")
     trial.go("new")
     trial.browser.click("#follow")
     trial.told("New transfers are followed.")
@@ -85,23 +94,21 @@ def try_following(trial):
         {"id": "301", "debit_account_id": "2", "credit_account_id": "50", "amount": "6",
          "ledger": 978, "code": 1}])
     trial.told("2 new transfers.")
-    want([[row[1], *row[3:]] for row in trial.rows("#new-out")],
-         [["301", "2", "50", "978", "6"], ["300", "1", "2", "978", "5"]], "new transfers")
+    want([[row[1], *row[3:7]] for row in trial.rows("#new-out")],
+         [["301", "2", "50", "EUR", "0.06"], ["300", "1", "2", "EUR", "0.05"]], "new transfers")
     trial.go("accounts")
-    trial.browser.wait("const it = document.querySelector('[href=\"#statement/2\"]');"
-                       "it?.focus(); return it !== null", why="account 2")
     trial.ledger.batch("/transfers", [{"id": "302", "debit_account_id": "50", "amount": "7",
                                        "credit_account_id": "1", "ledger": 978, "code": 1}])
-    trial.told("1 new transfer.")
-    told = trial.ledger.accounts("1", "2", "50")
-    want(trial.rows("#accounts-out"), [account_row(each, {}) for each in told], "accounts go along")
-    want(trial.browser.run("return document.activeElement.getAttribute('href')"), "#statement/2",
-         "the focus in a table that is made anew")
+    trial.told("3 new transfers came meanwhile.")
     trial.go("new")
+    want([row[1] for row in trial.rows("#new-out")], ["302", "301", "300"], "each transfer once")
     trial.browser.click("#follow")
     trial.told("no longer")
     want(trial.browser.run("return document.getElementById('follow').ariaPressed"), "false", "off")
-    want([row[1] for row in trial.rows("#new-out")], ["302", "301", "300"], "each transfer once")
+    trial.ledger.batch("/transfers", [{"id": "303", "debit_account_id": "50", "amount": "7",
+                                       "credit_account_id": "1", "ledger": 978, "code": 1}])
+    time.sleep(3)
+    want(len(trial.rows("#new-out")), 3, "nothing more")
     trial.quiet()
 
 
@@ -140,7 +147,8 @@ def try_silence(trial):
     trial.ledger.end()
     trial.go("statement", "3")
     trial.told("does not answer", "#wrong")
-    trial.quiet("CONNECTION_REFUSED")
+    trial.quiet("502" if trial.origin != f"http://127.0.0.1:{trial.ledger.port}" else
+                "CONNECTION_REFUSED")
     trial.ledger.serve()
     trial.browser.click("#statement-form button")
     trial.told("Account 3:")
@@ -148,27 +156,79 @@ def try_silence(trial):
     trial.quiet()
 
 
-TRIALS = (try_page, try_key, try_accounts, try_met, try_all, try_many, try_statement,
-          try_pages, try_transfer, try_trial_balance, try_keyboard, try_looks, try_following, try_policy,
-          try_silence)
+SESSION = (try_page, try_key, try_accounts, try_sorted, try_statement, try_transfer,
+           try_trial_balance, try_search, try_keyboard, try_following, try_policy, try_silence,
+           try_many)
+
+
+@contextlib.contextmanager
+def page_of(ledger, is_served):
+    """Where the page is: that of the program, or that of the file before it."""
+    if not is_served:
+        yield f"http://127.0.0.1:{ledger.port}/"
+        return
+    with served.server(ledger.port) as development:
+        threading.Thread(target=development.serve_forever, daemon=True).start()
+        yield f"http://127.0.0.1:{development.server_port}/"
+        development.shutdown()
+
+
+def session(ledger, trial):
+    ledger.play()
+
+
+def market(ledger, trial):
+    ledger.business = Business(ledger)
+    ledger.business.book()
+    ledger.set_moment(LAST_MOMENT)
+    ledger.batch("/transfers", [])
+
+
+def busy(ledger, trial):
+    trial.browser.patience = PATIENCE
+    trial.busy = Busy(ledger)
+    trial.busy.book()
+
+
+LEDGERS = ((session, SESSION, None), (market, (*MARKET, try_looks), "2026-09-01 06:00:00"),
+           (busy, BUSY, None))
+
+
+def name_of(trial):
+    return trial.__name__.removeprefix("try_").replace("_", " ")
+
+
+def try_ledger(arguments, log, book, trials, moment):
+    """A ledger of its own with these books, and the trials over it."""
+    chosen = [each for each in trials if not arguments.only
+              or {book.__name__, name_of(each)} & set(arguments.only)]
+    if not chosen:
+        return
+    with tempfile.TemporaryDirectory() as folder, \
+            Ledger(str(arguments.ledgerd.resolve()), folder, log, moment) as ledger, \
+            page_of(ledger, arguments.served) as url, Browser(log) as browser:
+        trial = Trial(browser, ledger, url, arguments.pictures, folder)
+        book(ledger, trial)
+        for each in chosen:
+            begun = time.monotonic()
+            each(trial)
+            print(f"{name_of(each)}: {each.__doc__} ({time.monotonic() - begun:.1f} s)", flush=True)
 
 
 def main():
-    ledgerd, *pictures = sys.argv[1:]
-    pictures = pathlib.Path(pictures[0]) if pictures else None
-    with tempfile.TemporaryDirectory() as folder, tempfile.TemporaryFile() as log:
-        with Ledger(str(pathlib.Path(ledgerd).resolve()), folder, log) as ledger:
-            ledger.play()
-            with Browser(log) as browser:
-                url = f"http://127.0.0.1:{ledger.port}/"
-                trial = Trial(browser, ledger, url, pictures)
-                for each in TRIALS:
-                    each(trial)
-                    print(f"{each.__name__[4:].replace('_', ' ')}: {each.__doc__}", flush=True)
+    parser = argparse.ArgumentParser()
+    parser.add_argument("ledgerd", type=pathlib.Path)
+    parser.add_argument("pictures", type=pathlib.Path, nargs="?")
+    parser.add_argument("--served", action="store_true")
+    parser.add_argument("--only", nargs="+", default=[])
+    arguments = parser.parse_args()
+    with tempfile.TemporaryFile() as log:
+        for book, trials, moment in LEDGERS:
+            try_ledger(arguments, log, book, trials, moment)
 
 
 if __name__ == "__main__":
     try:
         main()
     except Failed as fault:
-        sys.exit(f"try_console: {fault}")
+        raise SystemExit(f"try_console: {fault}") from None

@@ -35,9 +35,9 @@ type Options struct {
 // bytes, after growing pauses, if the connection was cut or refused, if the service is unavailable, and
 // if it replies busy or too_much. That never books an event twice.
 //
-// Calls return an *Error: ErrUnanswered if no answer came in time, a Refusal if the service refuses the
-// request, ErrBadReply if something other than a ledger answers, and ErrInvalid, before anything is sent,
-// for invalid arguments.
+// Calls return an *Error. It is ErrUnanswered if no answer came in time, and a Refusal if the service
+// refuses the request. It is ErrBadReply if something other than a ledger answers, and ErrInvalid, before
+// anything is sent, for invalid arguments.
 type Ledger struct {
 	transport *transport
 	deadline  time.Duration

@@ -153,7 +153,7 @@ class Transport:
             connection.close()
 
     def _give_back(self, connection: http.client.HTTPConnection, status: int) -> None:
-        """Keeps a connection for the next message. Behind some refusals the service closes it."""
+        """Keeps a connection for the next message. After some refusals the service closes it."""
         if status != 200 or connection.sock is None or self._max_idle <= 0:
             connection.close()
             return

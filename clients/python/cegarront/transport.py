@@ -1,6 +1,6 @@
 """The rule for resending, which both transports share.
 
-A client resends the same bytes if the answer is not known: the connection was cut or refused, the
+A client resends the same bytes if the answer is not known. Then the connection was cut or refused, the
 service was `unavailable`, or a proxy reports that it got no answer. It also resends if the service
 refused the message for now, with `busy` or `too_much`. The ledger allows that for every message: it
 never books an id twice. Every other reply is final.
