@@ -1,6 +1,6 @@
-"""Tries the console in chromium, and compares each view with what the service answers over HTTP
-and with what was booked: over the worked session and more, over a small market of three months, and
-over 10,000 accounts and 200,000 transfers while more come.
+"""Tries the console in chromium, and compares each view with what the service answers over HTTP and
+with what was booked. There are three ledgers: the worked session and more, a small market of three
+months, and 10,000 accounts with 200,000 transfers while more come.
 
     python3 console/try_console.py LEDGERD [PICTURES] [--served] [--only NAME..]
 

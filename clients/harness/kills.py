@@ -156,7 +156,7 @@ def balances(standing):
 
 
 def storm(service, words, seed, seconds):
-    """Runs the payment desks, and kills the service meanwhile."""
+    """Runs the clients, and kills the service meanwhile."""
     until, drawn = time.monotonic() + seconds, random.Random(seed)
     relay = Relay(service.port, drawn.random(), LOST_ONE_IN)
     desks = [Desk(words, url, drawn.random(), until)
