@@ -102,7 +102,6 @@ impl Refusal {
     }
 
     /// The whole reply, from its status line on.
-    #[tactic(auto, unfolding(crate::specs::ReplyText::refusal_text, crate::proofs::Literals::reply_on_literals))]
     pub fn reply(self) -> &'static str
         ensures { result.now ≡ refusal_text self }
     {
