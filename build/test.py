@@ -170,7 +170,7 @@ def clients(step):
     """The other clients whose languages are there: their cases, and seconds of kills."""
     for name, call in ("typescript", "node"), ("go", "go"):
         if shutil.which(call):
-            look("clients/harness/all.py", LEDGERD, "--seconds", "10", name)(step)
+            look("clients/harness/all.py", "--seconds", "10", LEDGERD, name)(step)
 
 
 def examples(step):

@@ -51,15 +51,16 @@ class Tasks(unittest.IsolatedAsyncioTestCase):
             self.assertLessEqual(fake.connections, 4)
 
     async def test_who_finds_all_connections_busy_waits_until_the_deadline(self):
-        silent = Silent()
-        ledger = AsyncLedger(silent.url, KEY, connections=1, deadline=0.5)
-        one = asyncio.create_task(ledger.create_transfers([PAID]))
-        await asyncio.to_thread(silent.came.wait, 10)
+        ledger = AsyncLedger(Silent().url, KEY, deadline=0.5)
+        ledger._transport._slots = asyncio.Semaphore(0)
         with self.assertRaises(Unanswered) as raised:
             await ledger.create_transfers([PAID])
         self.assertFalse(raised.exception.may_be_booked)
+
+    async def test_a_batch_without_an_answer_by_the_deadline_may_be_booked(self):
+        ledger = AsyncLedger(Silent().url, KEY, deadline=2)
         with self.assertRaises(Unanswered) as raised:
-            await one
+            await ledger.create_transfers([PAID])
         self.assertTrue(raised.exception.may_be_booked)
 
     async def test_a_call_that_is_cancelled_resets_its_connection(self):
