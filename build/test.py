@@ -192,7 +192,9 @@ def all_steps():
     steps = [Step(f"build-{name}", build(name), room=BUILDS) for name in checked.LEVELS]
     steps += [Step("page", look("console/constant.py", "--check")),
               *[Step(it, look_at(it)) for it in ("layout", "wrong-bodies", "scripts")],
-              Step("english", english), Step("model", look("faults/worked.py"))]
+              Step("english", english), Step("model", look("faults/worked.py")),
+              Step("figures", look("docs/figures.py", "--check")),
+              Step("theorems", look("bench/shape", "--closures", "docs/PROMISES.md"))]
     for crate, name in checked.crates_of_tests().items():
         act = tests_of(crate, checked.MADE / f"{name}-unproved")
         steps += [Step(crate.name, act, [f"build-{name}"])]
