@@ -16,7 +16,7 @@ EXAMPLES = pathlib.Path(__file__).resolve().parents[1]
 sys.path[:0] = [str(EXAMPLES / "clients"), str(EXAMPLES.parent / "faults")]
 
 import recipes  # noqa: E402
-from served import ended, free_port, served, wait_for  # noqa: E402
+from served import ended, free_port, served, wait_for, wait_for_reply  # noqa: E402
 
 PATIENCE = 60
 NOBODY = "0" * 64
@@ -105,7 +105,8 @@ def wrong_message(word, method, template, key):
 def expect(description, method, template, status, word, reply):
     """A reply is the refusal that an operation lists, and fits its schema."""
     told, body = reply
-    description.check_reply(method, path_of(template), told, body)
+    answers = description.operation(method, path_of(template))["responses"]
+    description.check(json.loads(body), answers[status]["content"]["application/json"]["schema"])
     wanted = {"no_route": 404, "bad_method": 405}.get(word) or int(status)
     if (told, json.loads(body)) != (wanted, {"error": word}):
         sys.exit(f"{method} {template}: {told} {body}, and the description has {status} {word}")
@@ -186,13 +187,14 @@ def unavailable(description, ledgerd, db, tenant):
     words = [ledgerd, "serve", "--db", db, "--port", str(port), "--standby"]
     with ended(subprocess.Popen(words, stderr=subprocess.DEVNULL)) as standby:
         wait_for(port, standby)
+        wait_for_reply(port)
         tenant.port = port
         for method, template, operation in description.operations():
             # The page for browsers is a constant, and refused only where memory is lacking.
             if template != "/":
                 body = body_of(template) if method == "POST" else ""
                 reply = tenant.ask(method, path_of(template), body)
-                expect(description, method, template, 503, "unavailable", reply)
+                expect(description, method, template, "503", "unavailable", reply)
                 many += 1
     return many
 
@@ -208,12 +210,13 @@ def exhausted(description, ledgerd, folder, db, name, key):
     with ended(subprocess.Popen([ledgerd, "serve", "--db", db, "--port", str(port)],
                                 stderr=subprocess.DEVNULL)) as service:
         wait_for(port, service)
+        wait_for_reply(port)
         tenant = Tenant.__new__(Tenant)
         tenant.key, tenant.port, tenant.name = key, port, name
         for method, template, operation in description.operations():
             if ("503", "clock_exhausted") in description.words(operation):
                 reply = tenant.ask(method, template, body_of(template))
-                expect(description, method, template, 503, "clock_exhausted", reply)
+                expect(description, method, template, "503", "clock_exhausted", reply)
                 many += 1
     return many
 
