@@ -177,6 +177,17 @@ def examples(step):
     """The examples that are tried over a service."""
     for it in "following/try_following", "trial-balance/try_trial_balance", "clients/try_beginners":
         look(f"examples/{it}.py", LEDGERD)(step)
+    seed = os.environ.get("SEED") or "2026"
+    look("examples/webhooks/try_webhooks.py", LEDGERD, seed, "8")(step)
+    look("examples/wallet/try_wallet.py", LEDGERD, seed, "4")(step)
+
+
+def openapi(step):
+    """The description of the requests, and a client that is generated from it. Each is skipped where the
+    machine lacks what it needs, and its log says so."""
+    for it in "check_openapi", "openapi/try_generated":
+        status, told = step.run(PYTHON, f"examples/{it}.py", LEDGERD)
+        step.count(status, int(not status and " is skipped: " not in told))
 
 
 def trials(step):
@@ -198,7 +209,7 @@ def all_steps():
     for crate, name in checked.crates_of_tests().items():
         act = tests_of(crate, checked.MADE / f"{name}-unproved")
         steps += [Step(crate.name, act, [f"build-{name}"])]
-    over = [trials, python, clients, examples, session, answers]
+    over = [trials, python, clients, examples, openapi, session, answers]
     return [*steps, *[Step(it.__name__, it, ["build-ledgerd"]) for it in over]]
 
 
