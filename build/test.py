@@ -175,11 +175,19 @@ def clients(step):
 
 def examples(step):
     """The examples that are tried over a service."""
-    for it in "following/try_following", "trial-balance/try_trial_balance", "clients/try_beginners":
+    for it in ("following/try_following", "trial-balance/try_trial_balance", "clients/try_beginners",
+               "operating/try_signals"):
         look(f"examples/{it}.py", LEDGERD)(step)
-    seed = os.environ.get("SEED") or "2026"
-    look("examples/webhooks/try_webhooks.py", LEDGERD, seed, "8")(step)
-    look("examples/wallet/try_wallet.py", LEDGERD, seed, "4")(step)
+
+
+def webhooks(step):
+    """Transfers are posted to a URL while both sides are killed: a short sample."""
+    look("examples/webhooks/try_webhooks.py", LEDGERD, os.environ.get("SEED") or "2026", "8")(step)
+
+
+def wallet(step):
+    """Wallets are kept and reconciled while the service is killed: a short sample."""
+    look("examples/wallet/try_wallet.py", LEDGERD, os.environ.get("SEED") or "2026", "4")(step)
 
 
 def openapi(step):
@@ -209,7 +217,7 @@ def all_steps():
     for crate, name in checked.crates_of_tests().items():
         act = tests_of(crate, checked.MADE / f"{name}-unproved")
         steps += [Step(crate.name, act, [f"build-{name}"])]
-    over = [trials, python, clients, examples, openapi, session, answers]
+    over = [trials, python, clients, examples, wallet, webhooks, openapi, session, answers]
     return [*steps, *[Step(it.__name__, it, ["build-ledgerd"]) for it in over]]
 
 

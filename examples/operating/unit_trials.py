@@ -205,6 +205,8 @@ def confine(tenant):
     text = pathlib.Path(f"/proc/{process}/status").read_text()
     fields = dict(line.split(":\t", 1) for line in text.splitlines() if ":\t" in line)
     want({name: fields[name] for name in CONFINED} == CONFINED, text)
+    limits = pathlib.Path(f"/proc/{process}/limits").read_text()
+    want(re.search(r"^Max core file size +0 +0 ", limits, re.M), limits)
     ids = pwd.getpwnam(UNIT)
     places = told_by("nsenter", "-t", process, "-m", "-S", ids.pw_uid, "-G", ids.pw_gid, "find",
                      "/", "-path", "/proc", "-prune", "-o", "-type", "d", "-writable", "-print")
