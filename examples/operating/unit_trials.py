@@ -22,7 +22,7 @@ FOLDER, COPIES = pathlib.Path("/var/lib/ledgerd"), pathlib.Path("/srv/copies")
 DB = FOLDER / "ledger.db"
 LOG = pathlib.Path(f"{DB}-wal")
 # Seconds within which a unit is to be in a state, and behind which one that has failed stays so.
-PATIENCE, STAYS = 60, 7
+PATIENCE, STAYS = 180, 7
 # An address of the machine that is not 127.0.0.1.
 ELSEWHERE = "10.9.9.9"
 # The fields of the process in /proc, and of the unit in systemd.
