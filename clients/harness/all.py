@@ -1,5 +1,7 @@
-"""Tests the clients whose languages are installed: each client's own tests with clients/cases.json, the
-first lines of its README, the wallet example, and a minute of work while the service is killed.
+"""Tests the clients whose languages are installed.
+
+Each passes its own tests with clients/cases.json, the first lines of its README, the wallet example, and a
+minute of work while the service is killed.
 
     python3 clients/harness/all.py LEDGERD [--seconds N] [CLIENT..]
 

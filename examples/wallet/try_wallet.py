@@ -23,8 +23,9 @@ from service import Service  # noqa: E402
 from wallets import CURRENCIES, FIRST_WALLET, OK, Wallets, accounts  # noqa: E402
 
 CLERKS, WALLETS, SECONDS, DEADLINE = 8, 4, 8, 2
-# The clerks do OPERATIONS at least, however slow the machine is, and each of SHOWN occurs.
-OPERATIONS, SHOWN = 150, ("deposit ok", "hold ok", "capture ok", "refund ok", "hold exceeds_credits")
+# The clerks do OPERATIONS at least, and each of SHOWN occurs. A slow machine gets PATIENCE seconds more.
+PATIENCE, OPERATIONS = 180, 120
+SHOWN = ("deposit ok", "hold ok", "capture ok", "refund ok", "hold exceeds_credits")
 
 
 class Clerk(threading.Thread):
@@ -33,8 +34,8 @@ class Clerk(threading.Thread):
     def __init__(self, place, ledger, file, seed, is_over):
         super().__init__(daemon=True)
         self.place, self.ledger, self.file, self.is_over = place, ledger, file, is_over
-        self.random, self.orders, self.calls, self.failure = random.Random(seed), [], [], None
-        self.outcomes = collections.Counter()
+        self.random, self.orders, self.captured, self.calls = random.Random(seed), [], [], []
+        self.outcomes, self.failure = collections.Counter(), None
 
     def run(self):
         try:
@@ -58,14 +59,21 @@ class Clerk(threading.Thread):
         call[2] = outcome
         if is_new:
             self.outcomes[f"{name} {outcome}"] += 1
-            if name == "hold" and outcome == OK:
-                self.orders.append((arguments[0], arguments[3]))
+            if outcome == OK and name in ("hold", "capture"):
+                self.note(name, *arguments)
+
+    def note(self, name, key, *arguments):
+        """Keeps an order with the amount that was held, or captured."""
+        if name == "hold":
+            self.orders.append((key, arguments[2]))
+        else:
+            self.captured.append(arguments[:2])
 
     def draw(self, key):
         """The name of an operation, and its arguments."""
         currency, amount = self.random.choice(CURRENCIES), self.random.randint(1, 5000)
         wallet, choice = FIRST_WALLET + self.random.randrange(WALLETS), self.random.random()
-        if choice < 0.25 or not self.orders and choice > 0.6:
+        if choice < 0.25 or not self.orders and choice >= 0.6 or not self.captured and choice >= 0.85:
             return "deposit", (key, currency, wallet, 3 * amount)
         if choice < 0.6:
             return "hold", (key, currency, wallet, amount, self.random.choice((1, 60, 3600)))
@@ -74,25 +82,35 @@ class Clerk(threading.Thread):
             return "capture", (key, order, self.random.randint(1, held + held // 9), held // 50)
         if choice < 0.85:
             return "void", (key, order)
-        return "refund", (key, order, self.random.randint(1, held))
+        order, captured = self.random.choice(self.captured)
+        return "refund", (key, order, self.random.randint(1, captured))
 
 
 def kill_often(service, draw, clerks, seconds):
-    """Kills the service and starts it again, until the time is over and enough was done. How often."""
+    """Kills the service and starts it again, until the time is over. Then it serves on until the clerks
+    have done enough. How many kills."""
     kills, until = 0, time.monotonic() + seconds
-    while time.monotonic() < until or sum(all_outcomes(clerks).values()) < OPERATIONS:
-        if any(each.failure for each in clerks):
-            break
+    while time.monotonic() < until:
         time.sleep(draw.uniform(0.3, 2))
         service.kill()
         kills += 1
         time.sleep(draw.choice((0, 0, 0.2)))
         service.start()
+    while time.monotonic() < until + PATIENCE and lacks_something(clerks):
+        if any(each.failure for each in clerks):
+            break
+        time.sleep(0.1)
     return kills
 
 
 def all_outcomes(clerks):
     return sum((each.outcomes.copy() for each in clerks), collections.Counter())
+
+
+def lacks_something(clerks):
+    """Whether there were too few operations, or not all kinds of them."""
+    outcomes = all_outcomes(clerks)
+    return sum(outcomes.values()) < OPERATIONS or any(not outcomes[each] for each in SHOWN)
 
 
 def repeat_all(wallets):
@@ -119,7 +137,7 @@ def main():
         kills = kill_often(service, draw, clerks, seconds)
         is_over.set()
         for each in clerks:
-            each.join(120)
+            each.join(PATIENCE)
             if each.is_alive() or each.failure:
                 sys.exit(f"seed {seed}: a clerk: {each.failure or 'no answer'}")
         repeat_all(wallets)
