@@ -6,8 +6,8 @@ The generator is OpenAPI::Client, Debian's libopenapi-client-perl. It makes a cl
 when the program starts, with a method for each operationId, which validates what it sends. Where it is
 missing this says so, and tries nothing. In Debian 12 `apt-cache search` found no other generator of clients
 for OpenAPI 3: no openapi-generator, swagger-codegen, oapi-codegen, go-swagger, openapi-python-client, kiota,
-quicktype, datamodel-code-generator or openapi-typescript. Of autorest it has the libraries for what is
-generated, and kube-openapi writes descriptions from Go types."""
+quicktype, datamodel-code-generator or openapi-typescript. There are the libraries that autorest's output
+uses, and kube-openapi, which writes descriptions from Go types."""
 
 import os
 import pathlib
