@@ -4,7 +4,8 @@ booked twice, and each chain stands whole or not at all.
     python3 clients/harness/kills.py LEDGERD [--seconds N] [--seed N] -- COMMAND..
 
 COMMAND is the client's driver (`driver.py`). Five drivers run at once: four send batches, two of them over
-a relay that loses replies (`relay.py`), and one follows the ledger. The seed determines the batches, but not when a kill comes."""
+a relay that loses replies (`relay.py`), and one follows the ledger. The seed determines the batches, but not
+when a kill comes."""
 
 import argparse
 import collections
@@ -242,7 +243,8 @@ def main():
     told = outcomes_of(desks)
     for outcome in OUTCOMES:
         must(told[outcome], f"nothing was {outcome}: a longer run?")
-    print(f"kills: {kills} kills, {lost} replies lost, {sum(len(each.batches) for each in desks)} batches answered,"
+    batches = sum(len(each.batches) for each in desks)
+    print(f"kills: {kills} kills, {lost} replies lost, {batches} batches answered,"
           f" {sum(each.unanswered for each in desks)} calls without an answer; events: "
           + ", ".join(f"{count} {outcome}" for outcome, count in sorted(told.items()))
           + "; nothing lost, nothing doubled")

@@ -81,7 +81,8 @@ def main():
                        text=True, check=True, stdout=subprocess.DEVNULL, stderr=subprocess.DEVNULL)
         for place, (number, effect) in enumerate(listed):
             words = [ledgerd, "serve", "--db", db, "--port", str(port)]
-            with ended(subprocess.Popen(words, preexec_fn=without_core, stderr=subprocess.DEVNULL)) as service:
+            begun = subprocess.Popen(words, preexec_fn=without_core, stderr=subprocess.DEVNULL)
+            with ended(begun) as service:
                 wait_for(port, service)
                 wait_for_reply(port)
                 told = send(service, port, number, place)

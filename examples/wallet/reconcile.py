@@ -44,7 +44,8 @@ def compare_transfers(ledger, expected):
         asked = expected[each.id]
         same = all(getattr(asked, name) in (0, getattr(each, name))
                    for name in ("debit_account_id", "credit_account_id", "amount", "ledger", "code"))
-        must(same and each.flags == asked.flags and each.pending_id == asked.pending_id, f"{each}, not {asked}")
+        same = same and (each.flags, each.pending_id) == (asked.flags, asked.pending_id)
+        must(same, f"{each}, not {asked}")
     return {each.id: each for each in stored}
 
 

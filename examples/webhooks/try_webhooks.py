@@ -192,7 +192,8 @@ def main():
         env = {**os.environ, "LEDGER_URL": f"http://127.0.0.1:{port}", "LEDGER_KEY": KEY,
                "HOOK_URL": f"http://127.0.0.1:{hook}/", "HOOK_SECRET": "secret"}
         ask = [sys.executable, __file__]
-        sides = [Side([*ask, "--send", str(place)], env), Side([*ask, "--receive", str(file), str(hook)], env)]
+        sides = [Side([*ask, "--send", str(place)], env),
+                 Side([*ask, "--receive", str(file), str(hook)], env)]
         for each in sides:
             each.start()
             stack.callback(each.kill)
