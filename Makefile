@@ -87,11 +87,13 @@ must-fail:
 	+@python3 build/gate.py must-fail $(CRATES)
 
 # The client for Python: its own tests, and the program killed under it. Then the examples that
-# follow a ledger and sum it up.
+# follow a ledger, post its transfers, sum it up, and keep wallets on it.
 python: ledgerd
 	LEDGERD=$(LEDGERD) python3 -m unittest discover clients/python
 	python3 examples/following/try_following.py $(LEDGERD)
 	python3 examples/trial-balance/try_trial_balance.py $(LEDGERD)
+	python3 examples/webhooks/try_webhooks.py $(LEDGERD)
+	python3 examples/wallet/try_wallet.py $(LEDGERD)
 
 # The page for the browser, in chromium; the pictures in docs/ are made anew.
 console: ledgerd

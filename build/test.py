@@ -175,8 +175,27 @@ def clients(step):
 
 def examples(step):
     """The examples that are tried over a service."""
-    for it in "following/try_following", "trial-balance/try_trial_balance", "clients/try_beginners":
+    for it in ("following/try_following", "trial-balance/try_trial_balance", "clients/try_beginners",
+               "operating/try_signals"):
         look(f"examples/{it}.py", LEDGERD)(step)
+
+
+def webhooks(step):
+    """Transfers are posted to a URL while both sides are killed: a short sample."""
+    look("examples/webhooks/try_webhooks.py", LEDGERD, os.environ.get("SEED") or "2026", "8")(step)
+
+
+def wallet(step):
+    """Wallets are kept and reconciled while the service is killed: a short sample."""
+    look("examples/wallet/try_wallet.py", LEDGERD, os.environ.get("SEED") or "2026", "4")(step)
+
+
+def openapi(step):
+    """The description of the requests, and a client that is generated from it. Each is skipped where the
+    machine lacks what it needs, and its log says so."""
+    for it in "check_openapi", "openapi/try_generated":
+        status, told = step.run(PYTHON, f"examples/{it}.py", LEDGERD)
+        step.count(status, int(not status and " is skipped: " not in told))
 
 
 def trials(step):
@@ -198,7 +217,7 @@ def all_steps():
     for crate, name in checked.crates_of_tests().items():
         act = tests_of(crate, checked.MADE / f"{name}-unproved")
         steps += [Step(crate.name, act, [f"build-{name}"])]
-    over = [trials, python, clients, examples, session, answers]
+    over = [trials, python, clients, examples, wallet, webhooks, openapi, session, answers]
     return [*steps, *[Step(it.__name__, it, ["build-ledgerd"]) for it in over]]
 
 

@@ -1,33 +1,33 @@
-"""Checks docs/openapi.yaml against OpenAPI's own schema, and against the description its examples,
-the bodies of examples/ and each request and reply of the worked session. It needs python3-yaml,
-python3-jsonschema and openapi-specification.
+"""Checks docs/openapi.yaml: against OpenAPI's own schema, the pages in docs/, its own examples, the
+worked session and docs/RECIPES.md. With the program it also sends the recipes, and provokes each refusal.
 
-    python3 examples/check_openapi.py"""
+    python3 examples/check_openapi.py [LEDGERD]
 
+It needs Debian's python3-yaml and python3-jsonschema, and openapi-specification for OpenAPI's own schema.
+Without the first two it says so, and checks nothing."""
+
+import importlib.util
 import json
+import os
 import pathlib
 import re
+import sys
 
-import jsonschema
-import yaml
+HERE = pathlib.Path(__file__).resolve().parent
+SESSION = HERE / "session/expected.txt"
+OPENAPI = pathlib.Path("/usr/share/openapi-specification/schemas/v3.0/schema.json")
+NEEDS = ("jsonschema", "yaml")
 
-TOP = pathlib.Path(__file__).resolve().parent.parent
-SESSION = TOP / "examples/session/expected.txt"
-OPENAPI = "/usr/share/openapi-specification/schemas/v3.0/schema.json"
+sys.path[:0] = [str(HERE / "openapi"), str(HERE.parent / "faults")]
 
 
-def resolved(value, whole):
-    """The value with each reference replaced by what it names."""
-    if isinstance(value, list):
-        return [resolved(each, whole) for each in value]
-    if not isinstance(value, dict):
-        return value
-    if "$ref" in value:
-        found = whole
-        for step in value["$ref"].removeprefix("#/").split("/"):
-            found = found[step]
-        return resolved(found, whole)
-    return {key: resolved(each, whole) for key, each in value.items()}
+def own_schema(description):
+    """The file is an OpenAPI description."""
+    from description import validate
+    if OPENAPI.exists():
+        validate(description.raw, json.loads(OPENAPI.read_text()))
+    else:
+        print(f"docs/openapi.yaml is not compared with {OPENAPI}: openapi-specification has it")
 
 
 def examples(value):
@@ -44,41 +44,42 @@ def examples(value):
 
 def exchanges(text):
     """The requests of a session: method, path, body, status and the reply's body."""
-    request = re.compile(r"^> \S+ (GET|POST) (/\S+)\n((?:> .*\n)*)< (\d+)\n((?:< .*\n?)*)", re.M)
+    request = re.compile(r"^> \S+ (GET|POST) (/\S*)\n((?:> .*\n)*)< (\d+)\n((?:< .*\n?)*)", re.M)
     for method, path, body, status, reply in request.findall(text):
         body, reply = (re.sub(r"C\d+(-\d+|\+1s?)?", "1", re.sub("^[<>] ", "", text, flags=re.M))
                        for text in (body, reply))
         yield method, path, body, status, reply
 
 
-def session_bodies(description):
-    """Each JSON body of the worked session, with its schema."""
+def recorded(description):
+    """Checks the examples, the bodies of examples/, the session and the requests of the recipes."""
+    import recipes
+    for example, schema in examples(description.whole):
+        description.check(example, schema)
+    for body in sorted(HERE.glob("*/*.json")):
+        description.check_request("POST", f"/{body.stem}", body.read_text())
     for method, path, body, status, reply in exchanges(SESSION.read_text()):
-        template = re.sub(r"^/statement/\d+$", "/statement/{account}", path)
-        route = description["paths"][template][method.lower()]
-        if body:
-            yield json.loads(body), schema_of(route["requestBody"])
-        answer = route["responses"].get(status, route["responses"]["default"])
-        if "application/json" in answer["content"]:
-            yield json.loads(reply), schema_of(answer)
-
-
-def schema_of(body):
-    return body["content"]["application/json"]["schema"]
+        description.check_request(method, path, body)
+        description.check_reply(method, path, status, reply)
+    for step in (step for steps in recipes.recipes() for step in steps):
+        if not isinstance(step, int):
+            description.check_request("POST", step[0], step[1])
 
 
 def main():
-    whole = yaml.safe_load((TOP / "docs/openapi.yaml").read_text())
-    jsonschema.Draft4Validator(json.loads(pathlib.Path(OPENAPI).read_text())).validate(whole)
-    description = resolved(whole, whole)
-    checked = list(examples(description))
-    for body in sorted(TOP.glob("examples/*/*.json")):
-        route = description["paths"][f"/{body.stem}"]["post"]
-        checked.append((json.loads(body.read_text()), schema_of(route["requestBody"])))
-    checked += session_bodies(description)
-    for example, schema in checked:
-        jsonschema.Draft4Validator(schema).validate(example)
-    print(f"docs/openapi.yaml is good, and so are {len(checked)} bodies")
+    lacking = [it for it in NEEDS if importlib.util.find_spec(it) is None]
+    if lacking:
+        return print(f"check_openapi is skipped: python3 has no {' and no '.join(lacking)}")
+    import against_pages
+    import described_service
+    from description import Description
+    description = Description()
+    own_schema(description)
+    against_pages.compare(description)
+    recorded(description)
+    print(f"docs/openapi.yaml agrees with the pages, and {description.checked} recorded bodies fit it")
+    if sys.argv[1:]:
+        described_service.check(description, os.path.abspath(sys.argv[1]))
 
 
 main()

@@ -1,5 +1,7 @@
-"""Tests the clients whose languages are installed: each client's own tests with clients/cases.json, the
-wallet example, and a minute of work while the service is killed.
+"""Tests the clients whose languages are installed.
+
+Each passes its own tests with clients/cases.json, the first lines of its README, the wallet example, and a
+minute of work while the service is killed.
 
     python3 clients/harness/all.py LEDGERD [--seconds N] [CLIENT..]
 
@@ -16,7 +18,7 @@ import sys
 import tempfile
 import time
 
-from service import Service
+from service import Service, free_port
 
 TOP = pathlib.Path(__file__).resolve().parents[2]
 CLIENTS = TOP / "clients"
@@ -88,11 +90,25 @@ def compiled(room):
             and run("typescript", ["tsc", "-p", f"{folder}/test"]))
 
 
+def follows_readme(client, program, room):
+    """Whether the shell lines of the client's README, which stand in its first ten, book a transfer. They
+    are followed in a folder that has `clients`, with the program on the path."""
+    folder = pathlib.Path(tempfile.mkdtemp(dir=room))
+    os.symlink(program, folder / "ledgerd")
+    os.symlink(CLIENTS, folder / "clients")
+    first = "\n".join((CLIENTS / client.name / "README.md").read_text().splitlines()[:10])
+    lines = first.partition("```sh\n")[2].partition("\n```")[0].replace("8080", str(free_port()))
+    (folder / "readme.sh").write_text(f"exec 2>/dev/null\ntrap 'kill $!' EXIT\n{lines}\n")
+    path = f"{folder}{os.pathsep}{os.environ['PATH']}"
+    return run(client.name, ["sh", "-eu", "readme.sh"], folder, {"PATH": path}, f"added shop\n{WALLET}")
+
+
 def try_one(client, program, seconds, room):
     """Whether a client passes all its tests."""
     holds = [compiled(room)] if client.name == "typescript" else []
     env = {"LEDGERD": program, "PYTHONPATH": str(CLIENTS / "python")}
     holds += [run(client.name, words, client.folder, env) for words in client.tests]
+    holds.append(follows_readme(client, program, room))
     with Service(program, KEY) as service:
         env.update(LEDGER_URL=service.url, LEDGER_KEY=KEY)
         holds.append(run(client.name, client.wallet, env=env, wanted=WALLET))

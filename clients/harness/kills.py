@@ -4,7 +4,8 @@ booked twice, and each chain stands whole or not at all.
     python3 clients/harness/kills.py LEDGERD [--seconds N] [--seed N] -- COMMAND..
 
 COMMAND is the client's driver (`driver.py`). Five drivers run at once: four send batches, two of them over
-a relay that loses replies (`relay.py`), and one follows the ledger. The seed determines the batches, but not when a kill comes."""
+a relay that loses replies (`relay.py`), and one follows the ledger. The seed determines the batches, but not
+when a kill comes."""
 
 import argparse
 import collections
@@ -24,21 +25,23 @@ WALLETS = ("2", "3", "4", POOR)
 LINKED, PENDING, POST, VOID = 1, 2, 4, 8
 DESKS, MAX_128 = 4, str(2**128 - 1)
 LOST_ONE_IN = 10
+# Each of these has to occur. A slow machine gets at most PATIENCE seconds more for them.
+OUTCOMES, PATIENCE = ("accepted", "found", "existed", "refused"), 120
 
 
 class Desk(threading.Thread):
     """Sends batch after batch, each until it is answered, and records the answers."""
 
-    def __init__(self, words, url, seed, until):
+    def __init__(self, words, url, seed, is_over):
         super().__init__(daemon=True)
-        self.driver, self.random, self.until = Driver(words), random.Random(seed), until
+        self.driver, self.random, self.is_over = Driver(words), random.Random(seed), is_over
         self.driver.ask(open={"url": url, "key": KEY, "deadline": 1.5})
         self.sent, self.stands, self.batches, self.holds = {}, {}, [], []
         self.outcomes, self.unanswered, self.failure = collections.Counter(), 0, None
 
     def run(self):
         try:
-            while time.monotonic() < self.until:
+            while not self.is_over.is_set():
                 again = self.batches and self.random.random() < 0.1
                 self.send(self.random.choice(self.batches) if again else self.draw(), not again)
             self.driver.close()
@@ -98,15 +101,15 @@ class Desk(threading.Thread):
 class Follower(threading.Thread):
     """Follows the ledger, and records each accepted transfer."""
 
-    def __init__(self, words, url, until):
+    def __init__(self, words, url, is_over):
         super().__init__(daemon=True)
-        self.driver, self.until = Driver(words), until
+        self.driver, self.is_over = Driver(words), is_over
         self.driver.ask(open={"url": url, "key": KEY, "deadline": 1.5})
         self.had, self.number, self.failure = [], "0", None
 
     def run(self):
         try:
-            while time.monotonic() < self.until:
+            while not self.is_over.is_set():
                 self.take()
                 time.sleep(0.05)
         except BaseException as error:
@@ -155,22 +158,35 @@ def balances(standing):
     return sums
 
 
+def outcomes_of(desks):
+    """How often each outcome has occurred."""
+    return sum((each.outcomes.copy() for each in desks), collections.Counter())
+
+
+def goes_on(desks, until):
+    """Whether the clients have more to do: the time is not over, or an outcome has not occurred yet."""
+    lacking = any(not outcomes_of(desks)[each] for each in OUTCOMES)
+    is_well = not any(each.failure for each in desks)
+    return time.monotonic() < until + (PATIENCE if lacking and is_well else 0)
+
+
 def storm(service, words, seed, seconds):
     """Runs the clients, and kills the service meanwhile."""
-    until, drawn = time.monotonic() + seconds, random.Random(seed)
+    until, drawn, is_over = time.monotonic() + seconds, random.Random(seed), threading.Event()
     relay = Relay(service.port, drawn.random(), LOST_ONE_IN)
-    desks = [Desk(words, url, drawn.random(), until)
+    desks = [Desk(words, url, drawn.random(), is_over)
              for url in (service.url, relay.url) * (DESKS // 2)]
-    follower = Follower(words, service.url, until)
+    follower = Follower(words, service.url, is_over)
     for each in (*desks, follower):
         each.start()
     kills = 0
-    while time.monotonic() < until:
+    while goes_on(desks, until):
         time.sleep(drawn.uniform(0.5, 3))
         service.kill()
         kills += 1
         time.sleep(drawn.choice((0, 0, 0.3)))
         service.start()
+    is_over.set()
     for each in (*desks, follower):
         each.join(120)
         must(not each.is_alive(), "a call takes longer than its deadline")
@@ -199,7 +215,6 @@ def compare(service, words, desks, follower):
         for each in driver.ask(call="lookup_accounts", ids=[BANK, *WALLETS])["items"]:
             names = ("debits_pending", "debits_posted", "credits_pending", "credits_posted")
             must([int(each[name]) for name in names] == wanted[each["id"]], f"sums: {each}")
-        follower.until = 0
         follower.take()
         listed = driver.ask(call="iter_transfers", asked={"limit": 999})["items"]
         must(follower.had == [each["id"] for each in listed], "the follower had something else")
@@ -225,10 +240,11 @@ def main():
                 for each in (BANK, *WALLETS)])
         desks, follower, kills, lost = storm(service, words.command, words.seed, words.seconds)
         compare(service, words.command, desks, follower)
-    told = sum((each.outcomes for each in desks), collections.Counter())
-    for outcome in ("accepted", "found", "existed", "refused"):
+    told = outcomes_of(desks)
+    for outcome in OUTCOMES:
         must(told[outcome], f"nothing was {outcome}: a longer run?")
-    print(f"kills: {kills} kills, {lost} replies lost, {sum(len(each.batches) for each in desks)} batches answered,"
+    batches = sum(len(each.batches) for each in desks)
+    print(f"kills: {kills} kills, {lost} replies lost, {batches} batches answered,"
           f" {sum(each.unanswered for each in desks)} calls without an answer; events: "
           + ", ".join(f"{count} {outcome}" for outcome, count in sorted(told.items()))
           + "; nothing lost, nothing doubled")

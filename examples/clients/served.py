@@ -1,6 +1,7 @@
 """A service of one's own for a trial: a new ledger with one tenant, on a free port."""
 
 import contextlib
+import http.client
 import os
 import secrets
 import socket
@@ -30,6 +31,13 @@ def wait_for(port, process):
     sys.exit(f"nothing listens on {port}")
 
 
+def wait_for_reply(port):
+    """Waits until the service has opened its file and replies."""
+    with contextlib.closing(http.client.HTTPConnection("127.0.0.1", port, timeout=120)) as link:
+        link.request("GET", "/health")
+        link.getresponse().read()
+
+
 @contextlib.contextmanager
 def ended(process):
     """A process, which is ended behind it."""
@@ -49,4 +57,5 @@ def served(ledgerd, folder):
     words = [ledgerd, "serve", "--db", db, "--port", str(port)]
     with ended(subprocess.Popen(words)) as service:
         wait_for(port, service)
+        wait_for_reply(port)
         yield port

@@ -116,4 +116,5 @@ def main():
           "outbox once, in order")
 
 
-main()
+if __name__ == "__main__":
+    main()

@@ -22,7 +22,7 @@ FOLDER, COPIES = pathlib.Path("/var/lib/ledgerd"), pathlib.Path("/srv/copies")
 DB = FOLDER / "ledger.db"
 LOG = pathlib.Path(f"{DB}-wal")
 # Seconds within which a unit is to be in a state, and behind which one that has failed stays so.
-PATIENCE, STAYS = 60, 7
+PATIENCE, STAYS = 180, 7
 # An address of the machine that is not 127.0.0.1.
 ELSEWHERE = "10.9.9.9"
 # The fields of the process in /proc, and of the unit in systemd.
@@ -205,6 +205,8 @@ def confine(tenant):
     text = pathlib.Path(f"/proc/{process}/status").read_text()
     fields = dict(line.split(":\t", 1) for line in text.splitlines() if ":\t" in line)
     want({name: fields[name] for name in CONFINED} == CONFINED, text)
+    limits = pathlib.Path(f"/proc/{process}/limits").read_text()
+    want(re.search(r"^Max core file size +0 +0 ", limits, re.M), limits)
     ids = pwd.getpwnam(UNIT)
     places = told_by("nsenter", "-t", process, "-m", "-S", ids.pw_uid, "-G", ids.pw_gid, "find",
                      "/", "-path", "/proc", "-prune", "-o", "-type", "d", "-writable", "-print")
