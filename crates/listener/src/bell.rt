@@ -4,8 +4,8 @@ use crate::tally::Tally;
 use sockets::Counts;
 use std::cell::Cell;
 
-/// Whether a call may wait at the admin socket, whether it is busy, whether holds are being released,
-/// and whether the service is to end; how many clients there are, and what was done for them.
+/// Whether a call may wait at the admin socket, and whether that is busy. Whether holds are being
+/// released, and whether the service is to end. How many clients there are, and what was done for them.
 #[derive(Drop)]
 pub struct Bell {
     has_rung: Cell<bool>,
