@@ -4,6 +4,9 @@ pub mod PieceLemmas
 mod OrderLemmas
 mod BehindLemmas
 mod SettleLemmas
+mod SettledLemmas
+mod InTimeLemmas
+mod CourseTimes
 pub mod RenewLemmas
 mod HeldLemmas
 mod OpeningLemmas

@@ -1,9 +1,10 @@
 -- An operator's order on a store, as what happens between turns.
-use Rattle.std.proofs.Common.{◌≡◌, ◌⊎◌, inl, inr, Result, subst₂, sym}
+use Rattle.std.proofs.Common.{◌≡◌, ◌⊎◌, inl, inr, None, Result, subst₂, sym}
 use Rattle.sqlite_disk.specs.declared.Disk as disk
 use Rattle.records.specs.declared.unavailable.Unavailable.{Unavailable}
 use Rattle.chain.specs.Backends.{in_use}
 use Rattle.chain.specs.Ledgers.{Tenants}
+use Rattle.service.specs.Attending.{Joins, Changes_key, Reads_part}
 use Rattle.service.specs.Courses.{Event, Tried}
 use Rattle.service.specs.Deeds.{Joined, Keyed}
 use Rattle.service.specs.Openings.{run_meaning, FoundAfter, As_now, As_before, As_done, Moves}
@@ -70,19 +71,19 @@ module _ {D : Type 0} {g : disk.Ghosts D} where
   -- what carrying out an order makes of a store that may not be there
   pub order_renews :
       (asked : Order) (old new : Store D g) (done : Result Done Fault) →
-      CarriesOut asked old done new → Attends (Open old) (Open new)
-  order_renews order.Tenants old new done carried = Looks (rest_kept old new carried.1)
+      CarriesOut asked old done new → Attends None (Open old) (Open new)
+  order_renews order.Tenants old new done carried = Looks tt (rest_kept old new carried.1)
   order_renews (order.AddTenant name digest) old new done carried =
-      Tries (Joined digest) (ending_told done)
+      Tries (Joined digest) (ending_told done) (Joins digest) tt
       (moves_kept old (Tried (Joined digest) (ending_told done)) new carried.1)
   order_renews (order.ChangeKey name digest) old new done carried =
-      Tries (Keyed carried.1.0 digest) (ending_told done)
+      Tries (Keyed carried.1.0 digest) (ending_told done) (Changes_key carried.1.0 digest) tt
       (moves_kept old (Tried (Keyed carried.1.0 digest) (ending_told done)) new carried.1.1)
   order_renews (order.Statement tenant account span) old new done carried =
       elim carried.1 [
-        | inl rest ↦ Looks (rest_kept old new rest)
+        | inl rest ↦ Looks tt (rest_kept old new rest)
         | inr read ↦
-            Tries (asked_for read.0 account) (ending_told done)
+            Tries (asked_for read.0 account) (ending_told done) (Reads_part read.0 account) tt
             (moves_kept old (Tried (asked_for read.0 account) (ending_told done)) new read.1)
       ]
 

@@ -2,7 +2,7 @@
 use Rattle.std.proofs.Common.{◌≡◌, ◌≢◌, ◌≤◌, ◌<◌, refl, ℕ, List, Result, Ok, OnErr}
 use Rattle.service.specs.Openings.{run_meaning, IsSettled}
 use Rattle.clients.specs.Deeds.{Act}
-use Rattle.polling.specs.Courses.{IsCourse, CoursesServeEachAlone}
+use Rattle.polling.specs.Courses.{IsCourse, CoursesServeEachAlone, BooksOnlyWhatIsAsked, MomentsRise}
 use Rattle.polling.specs.Ending.{Ends, Quiet, Long, most_turns}
 use Rattle.polling.specs.Ending as ending
 use Rattle.polling.specs.Laws.{EachIsServed, empty_hall}
@@ -24,7 +24,7 @@ module _ {S C P : Type 0} (r : Terms S C P) where
 
   -- what was served of whom nothing had come
   pub serves_so :
-      EachIsServed r → IsCourse r → CoursesServeEachAlone r →
+      EachIsServed r → IsCourse r → CoursesServeEachAlone r → BooksOnlyWhatIsAsked r → MomentsRise r →
       (ledgers : S) (moments : C) (peers : P) → IsSettled (run_meaning r.means) ledgers →
       (last : Hall S C P) (deeds : List Act)
       (served : Proceeds S C P r (empty_hall ledgers moments peers) deeds last) (now : Held S C P) →
@@ -32,7 +32,7 @@ module _ {S C P : Type 0} (r : Terms S C P) where
       (result ≡ Ok Enough → replies_in deeds ≡ most) →
       (result ≢ Ok Enough → replies_in deeds < most) → OnErr result (most_turns ≤ tellings served) →
       ServesClients r ledgers moments peers most now.ledgers now.moments now.peers result
-  serves_so each course alone ledgers moments peers settled last deeds served now keeps most result
+  serves_so each course alone booked rise ledgers moments peers settled last deeds served now keeps most result
       enough few asked =
       let first = empty_hall ledgers moments peers in
       record {
@@ -45,6 +45,10 @@ module _ {S C P : Type 0} (r : Terms S C P) where
         each = λ before client reads later may. each first last deeds served before client reads refl later may;
         course = λ renewals live. course renewals first last deeds served live settled;
         alone = λ renewals events began end is. alone renewals first last deeds served events began end is;
+        booked = λ renewals events began since.
+            booked renewals first last deeds served events began since;
+        rise = λ told rising renewals events began since.
+            rise told rising renewals first last deeds served events began since;
         enough = enough;
         few = few;
         asked = asked;

@@ -7,6 +7,7 @@ use Rattle.chain.specs.Backends.{in_use}
 use Rattle.chain.specs.Ledgers.{Tenants, IsDone, IsRun, Finds, IsAnswered, LeadsBy}
 use Rattle.chain.specs.declared.ledgers.BatchFault.{BatchFault}
 use Rattle.chain.specs.declared.ledgers.BatchFault.TheVariants as batch_fault
+use Rattle.service.specs.Attending.{Settles}
 use Rattle.service.specs.Courses.{Happens, Tried}
 use Rattle.service.specs.Deeds.{IsDeedDone}
 use Rattle.service.specs.Openings.{run_meaning, FoundAfter, As_now, As_before, As_done, IsSettled, Moves}
@@ -87,11 +88,13 @@ module _ {D : Type 0} {g : disk.Ghosts D} where
 
   -- what it makes of a store that may not be there
   pub settling_renews :
-      (moment : ℕ) (old new : Store D g) → SettlesBy moment old new → Attends (Open old) (Open new)
+      (moment : ℕ) (old new : Store D g) → SettlesBy moment old new
+      → Attends (Some moment) (Open old) (Open new)
   settling_renews moment old new settles =
       elim settles [
-        | inl rest ↦ Looks (rest_kept old new rest)
+        | inl rest ↦ Looks tt (rest_kept old new rest)
         | inr settled ↦
             Tries (settling settled.0 settled.1) settled.3
+            (Settles settled.0 moment settled.1 refl settled.2) tt
             (moves_kept old (Tried (settling settled.0 settled.1) settled.3) new settled.4)
       ]

@@ -1,13 +1,14 @@
 -- Ledgers that may not be there, and a store that is opened again where its disk fails.
-use Rattle.std.specs.Prelude.{◌≡◌, Bool, true, false, Option, Some, None, IsTrue}
+use Rattle.std.specs.Prelude.{◌≡◌, ℕ, Bool, true, false, Option, Some, None, IsTrue}
 use Rattle.std.proofs.Common.{refl}
 use Rattle.sqlite_disk.specs.declared.Disk as disk
 use Rattle.sqlite_disk.specs.declared.Files.{Files}
 use Rattle.chain.specs.Backends.{in_use}
 use Rattle.chain.specs.Ledgers.{LedgersMeaning, Tenants, AreValid}
+use Rattle.service.specs.Attending.{MayTry}
 use Rattle.service.specs.Courses as course
 use Rattle.service.specs.Deeds.{Deed}
-use Rattle.service.specs.Openings.{RunMeaning, run_meaning, IsSettled, IsOpened, Moves}
+use Rattle.service.specs.Openings.{RunMeaning, run_meaning, IsSettled, IsFoundLive, IsOpened, Moves}
 use Rattle.service.specs.Seen.{SeenAt, Whole, Within, seen}
 use Rattle.polling.specs.Courses.{IsAtRest, Renewed, Stayed, Opened, Tried, Rested, renewed_seen}
 use Rattle.polling.specs.Courses as renewed
@@ -114,6 +115,17 @@ module _ {D : Type 0} {g : disk.Ghosts D} where
   abbrev pub kept_store : RunMeaning (Kept (Store D g))
   kept_store = run_meaning (kept_meaning (in_use store_meaning))
 
+  -- where an opening may find anything of a store, that is live; so it is of none
+  abbrev pub IsFoundLiveKept : Kept (Store D g) → Type 0
+  IsFoundLiveKept = IsFoundLive (run_meaning (kept_meaning store_meaning.ledgers))
+
+  -- no store is taken away, and none is put where there was none
+  abbrev pub IsInPlace : (old new : Kept (Store D g)) → Type 0
+  IsInPlace (Open old) (Open new) = Unit {0}
+  IsInPlace (Open old) Closed = ⊥
+  IsInPlace Closed (Open new) = ⊥
+  IsInPlace Closed Closed = Unit {0}
+
   -- a store that is live in use is live
   pub live_kept :
       (kept : Kept (Store D g)) → IsLiveKept (in_use store_meaning) kept
@@ -150,51 +162,53 @@ module _ {D : Type 0} {g : disk.Ghosts D} where
       (files : Option (Files D)) × GivesFiles left files
       × opens files (tenants_kept (in_use store_meaning) new)
 
-  -- what is made of a store between turns, where a home opens these: one that answers calls stays
-  -- as it is; any other may stay, or is opened again over its own files, and is what was to be
-  -- found there; or that is refused, and the home opens a store in its place; or that is refused
-  -- too, and none answers; or an operator has asked for a deed, and this came of it; or for what is
-  -- there, and nothing has changed
-  pub data Renews (opens : Option (Files D) → Tenants → Type 0) (old new : Kept (Store D g)) :
-      Type 0 where
-    Stays : new ≡ old → Renews opens old new
+  -- What is made of a store between turns, given this moment if one was asked for, where an opener
+  -- opens these. It stays as it is. Or one that answers no calls is opened again over its own files,
+  -- and is what was to be found there. Or that is refused, and the opener opens a store in its place.
+  -- Or that is refused too, and none answers. Or a deed was tried on it that a service may do, and
+  -- this came of it. Or an operator has asked for what is there, and nothing has changed.
+  pub data Renews (opens : Option (Files D) → Tenants → Type 0) (given : Option ℕ)
+      (old new : Kept (Store D g)) : Type 0 where
+    Stays : new ≡ old → Renews opens given old new
     Again :
         answers old ≡ false → IsTrue (answers new) → IsOpened kept_store old new
-        → Renews opens old new
+        → Renews opens given old new
     Anew :
         (left : Kept (Store D g)) → answers old ≡ false → WasRefused old left →
         IsOpenedAnew opens left new → IsTrue (answers new) → IsSettled kept_store new
-        → Renews opens old new
+        → Renews opens given old new
     Refuses :
         answers old ≡ false → answers new ≡ false → (IsLiveKept store_meaning.ledgers new → ⊥)
-        → Renews opens old new
+        → Renews opens given old new
     Tries :
-        (deed : Deed) (ending : course.Ending) → Moves kept_store old (course.Tried deed ending) new
-        → Renews opens old new
-    Looks : IsAtRest kept_store old new → Renews opens old new
+        (deed : Deed) (ending : course.Ending) → MayTry given deed → IsInPlace old new
+        → Moves kept_store old (course.Tried deed ending) new → Renews opens given old new
+    Looks : IsInPlace old new → IsAtRest kept_store old new → Renews opens given old new
 
   -- the same where no store is opened in the place of another
-  abbrev pub Attends : (old new : Kept (Store D g)) → Type 0
-  Attends old new = Renews (λ files tenants. ⊥) old new
+  abbrev pub Attends : (given : Option ℕ) (old new : Kept (Store D g)) → Type 0
+  Attends given old new = Renews (λ files tenants. ⊥) given old new
 
   -- the same as it is told of any ledgers
   abbrev pub renewal_of :
-      (opens : Option (Files D) → Tenants → Type 0) (old new : Kept (Store D g))
-      → Renews opens old new → Renewed kept_store old new
-  renewal_of opens old new (Stays same) = Stayed same
-  renewal_of opens old new (Again silent answering opened) = Opened opened
-  renewal_of opens old new (Anew left silent refused anew answering settled) = renewed.Anew settled
-  renewal_of opens old new (Refuses silent none dead) =
+      (opens : Option (Files D) → Tenants → Type 0) (given : Option ℕ) (old new : Kept (Store D g))
+      → Renews opens given old new → Renewed kept_store given old new
+  renewal_of opens given old new (Stays same) = Stayed same
+  renewal_of opens given old new (Again silent answering opened) = Opened opened
+  renewal_of opens given old new (Anew left silent refused anew answering settled) =
+      renewed.Anew settled
+  renewal_of opens given old new (Refuses silent none dead) =
       renewed.Refused (λ live. dead (live_kept new live))
-  renewal_of opens old new (Tries deed ending moves) = Tried deed ending moves
-  renewal_of opens old new (Looks rest) = Rested rest
+  renewal_of opens given old new (Tries deed ending may stays moves) = Tried deed ending may moves
+  renewal_of opens given old new (Looks stays rest) = Rested rest
 
   -- and as it is seen between messages: nothing is opened inside of a round
   abbrev pub renewal_seen :
-      (opens : Option (Files D) → Tenants → Type 0) (old new : SeenAt (Kept (Store D g)))
-      → renews_seen (Renews opens) old new
-      → Renewed (run_meaning (seen (kept_meaning (in_use store_meaning)))) old new
-  renewal_seen opens (Whole old) (Whole new) renews =
-      renewed_seen (kept_meaning (in_use store_meaning)) (renewal_of opens old new renews)
-  renewal_seen opens (Whole old) (Within ledgers machines) renews = absurd renews
-  renewal_seen opens (Within ledgers machines) new renews = absurd renews
+      (opens : Option (Files D) → Tenants → Type 0) (given : Option ℕ)
+      (old new : SeenAt (Kept (Store D g)))
+      → renews_seen (Renews opens) given old new
+      → Renewed (run_meaning (seen (kept_meaning (in_use store_meaning)))) given old new
+  renewal_seen opens given (Whole old) (Whole new) renews =
+      renewed_seen (kept_meaning (in_use store_meaning)) (renewal_of opens given old new renews)
+  renewal_seen opens given (Whole old) (Within ledgers machines) renews = absurd renews
+  renewal_seen opens given (Within ledgers machines) new renews = absurd renews

@@ -4,10 +4,15 @@ use Rattle.std.specs.Net.Socket.{socket_ip, socket_port}
 use Rattle.sqlite_disk.specs.declared.Disk as disk
 use Rattle.sqlite_disk.specs.declared.Files.{Files}
 use Rattle.chain.specs.Ledgers.{Tenants}
+use Rattle.polling.specs.Courses.{IsSince}
+use Rattle.polling.specs.Laws.{empty_hall}
 use Rattle.polling.specs.Peers.{Doing}
+use Rattle.service.specs.Openings.{HasLed}
+use Rattle.service.specs.Rising.{GivesTold}
+use Rattle.service.specs.Seen.{Whole}
 use Rattle.store.specs.Stores.{AnswersCalls, IsUsable}
 use Rattle.store.specs.declared.store.Store.{Store}
-use Rattle.commands.specs.Kept.{kept_of}
+use Rattle.commands.specs.Kept.{kept_of, kept_store, renewal_seen}
 use Rattle.listener.specs.Listening.{ReadsListening}
 use Rattle.commands.specs.Serving.{ServesKept}
 use Rattle.commands.specs.declared.kept.Kept.{Kept}
@@ -48,15 +53,21 @@ module _ {D : Type 0} {g : disk.Ghosts D} {C O : Type 0} where
       ServesKept opens gives does first moments peers most ended.kept ended.moments ended.peers
       (Ok ended.why)
 
-  -- what is left has served a file to those who connected at an address. Nothing is known of its
-  -- home, of the clock or of what clients do
+  -- What is left has served a file to those who connected at an address. Its moments did not fall.
+  -- All that was done is a course of what happened to its store, whatever that was first. Nothing is
+  -- known of its opener, of the clock or of what clients do.
   pub record HasServedFile (word : Option (List ℕ)) (number : ℕ) (standby : Bool) (most : ℕ)
-      (ended : EndedService D Listening C O g) : Type 0 where
+      (ended : EndedService D Listening C O g) (told : C → ℕ) : Type 0 where
     pub listening : Listening
     pub listens : ListensAt word number listening
     pub first : Option (Store D g)
     pub begins : IsServedFirst standby first
     pub moments : C
     pub served :
-        HasServedStore (λ files tenants. Unit {0}) (λ old moment new. ⊤) (λ old doing new. ⊤)
+        HasServedStore (λ files tenants. Unit {0}) (GivesTold told) (λ old doing new. ⊤)
         (kept_of first) moments listening most ended
+    pub course :
+        HasLed kept_store
+        (IsSince (renewal_seen (λ files tenants. Unit {0}))
+        (empty_hall (Whole (kept_of first)) moments listening) served.serves.served.deeds
+        served.serves.served.last served.serves.served.served) ended.kept

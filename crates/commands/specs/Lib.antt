@@ -16,5 +16,6 @@ pub mod ReadBack
 pub mod Listing
 pub mod Copying
 pub mod Settling
+pub mod Unsettled
 pub mod Leaving
 pub mod Undone

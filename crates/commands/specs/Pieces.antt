@@ -13,6 +13,7 @@ use Rattle.chain.specs.declared.reads.Listed.{Listed}
 use Rattle.chain.specs.declared.reads.ReadFault.{ReadFault}
 use Rattle.chain.specs.declared.reads.ReadFault.TheVariants as fault
 use Rattle.parts.specs.Pieces.{IsPiece, LacksAccount}
+use Rattle.parts.specs.declared.rest.Rest.{Rest}
 use Rattle.service.specs.Courses.{Ending, Tried}
 use Rattle.service.specs.Deeds.{Deed, Asked}
 use Rattle.commands.specs.Endings.{ending_told}
@@ -62,9 +63,9 @@ module _ {D : Type 0} {g : disk.Ghosts D} where
       × Moves (run_meaning (in_use store_meaning)) old
       (Tried (asked_for digest account) (ending_told result)) new)
 
-  -- a deed was tried: so a part of a statement is read for a client, and nothing is as it was not
-  -- for any tenant
-  abbrev pub IsTried : Store D g → Store D g → Type 0
-  IsTried old new =
-      (deed : Deed) × ((ending : Ending)
-      × Moves (run_meaning (in_use store_meaning)) old (Tried deed ending) new)
+  -- the next part of a statement was read, as its tenant's own question for it
+  abbrev pub IsTried : Rest → Store D g → Store D g → Type 0
+  IsTried rest old new =
+      (ending : Ending)
+      × Moves (run_meaning (in_use store_meaning)) old
+      (Tried (asked_for rest.digest rest.account) ending) new

@@ -1,12 +1,15 @@
 -- What serving many clients comes to, until so many messages were replied to.
 use Rattle.std.specs.Prelude.{◌≡◌, ◌≢◌, ◌≤◌, ◌<◌, ℕ, List, Option, Result, Ok, OnErr}
+use Rattle.std.specs.List.{AllByRecursion}
 use Rattle.sqlite_disk.specs.declared.Disk as disk
 use Rattle.sqlite_disk.specs.declared.Files.{Files}
 use Rattle.chain.specs.Backends.{in_use}
 use Rattle.chain.specs.Ledgers.{Tenants}
 use Rattle.service.specs.Courses.{Event}
-use Rattle.service.specs.Openings.{run_meaning, CourseSince, HasLed}
+use Rattle.service.specs.Attending.{IsAskedOrOfService}
+use Rattle.service.specs.Openings.{run_meaning, IsFoundLive, CourseSince, HasLed}
 use Rattle.service.specs.OwnDeeds.{SeesItself}
+use Rattle.service.specs.Rising.{GivesRising, Rise}
 use Rattle.service.specs.Seen.{SeenAt, Whole}
 use Rattle.clients.specs.Answering.{MayCome}
 use Rattle.clients.specs.Deeds.{Act, IsClientServed, come_from, written_to}
@@ -19,18 +22,19 @@ use Rattle.polling.specs.Serving.{Hall, Terms, Proceeds, rules, tellings}
 use Rattle.store.specs.StoreLaws.{store_meaning}
 use Rattle.store.specs.declared.store.Store.{Store}
 use Rattle.commands.specs.Behind.{MayWait}
-use Rattle.commands.specs.Kept.{kept_meaning, kept_store, IsLiveKept, MayBeCalled, Renews}
+use Rattle.commands.specs.Kept.{kept_meaning, kept_store, IsFoundLiveKept, MayBeCalled, Renews}
 use Rattle.commands.specs.Kept.{renewal_seen}
 use Rattle.commands.specs.declared.serving.Served.{Served}
 use Rattle.commands.specs.declared.serving.Served.TheVariants.{Enough}
 use Rattle.commands.specs.declared.kept.Kept.{Kept}
 use Rattle.command_texts.specs.declared.fault.Fault.{Fault}
 
--- clients were served from the first that came, until so many messages were replied to, and no
--- more, or fewer were, since it was asked to end; or, with a fault, fewer were, and peers told 2^64
--- - 1 times at least what had happened; each was written a beginning of the replies to its own
--- messages, in order, one a message, as long as its replies went on as they were begun; and over
--- live ledgers all that was done is a course, in which each tenant sees its own deeds alone
+-- Clients were served from the first that came, until as many messages were replied to as there were
+-- to be. Or fewer were, since it was asked to end. Or with a fault fewer were, and peers told
+-- 2^64 - 1 times at least what had happened. Each was written a beginning of the replies to its own
+-- messages, in order, one a message, as long as its replies went on as they were begun. All that was
+-- done is a course, in which each tenant sees its own deeds alone. What no message asked for books
+-- nothing, and moments do not fall if those that are given do not.
 pub record ServesClients {S C P : Type 0} (r : Terms S C P) (ledgers : S) (moments : C) (peers : P)
     (most : ℕ) (ledgers_now : S) (moments_now : C) (peers_now : P) (result : Result Served Fault) :
     Type 0 where
@@ -49,7 +53,7 @@ pub record ServesClients {S C P : Type 0} (r : Terms S C P) (ledgers : S) (momen
       (machines_in before served client) (last.room.talks client)
   pub course :
       (renewals : AreRenewals r)
-      → r.means.is_live ledgers
+      → IsFoundLive (run_meaning r.means) ledgers
       → HasLed (run_meaning r.means)
       (IsSince renewals (empty_hall ledgers moments peers) deeds last served) last.room.ledgers
   pub alone :
@@ -57,6 +61,16 @@ pub record ServesClients {S C P : Type 0} (r : Terms S C P) (ledgers : S) (momen
       → CourseSince (IsSince renewals (empty_hall ledgers moments peers) deeds last served) events
       began now
       → (digest : List ℕ) → SeesItself began events now digest
+  pub booked :
+      (renewals : AreRenewals r) (events : List Event) (began : Tenants)
+      → IsSince renewals (empty_hall ledgers moments peers) deeds last served events began
+      → AllByRecursion IsAskedOrOfService events
+  pub rise :
+      (told : C → ℕ)
+      → GivesRising r.gives told
+      → (renewals : AreRenewals r) (events : List Event) (began : Tenants)
+      → IsSince renewals (empty_hall ledgers moments peers) deeds last served events began
+      → Rise (told moments) events (told last.room.moments)
   pub enough : result ≡ Ok Enough → replies_in deeds ≡ most
   pub few : result ≢ Ok Enough → replies_in deeds < most
   pub asked : OnErr result (most_turns ≤ tellings served)
@@ -69,10 +83,10 @@ module _ {D : Type 0} {g : disk.Ghosts D} {C P : Type 0}
   abbrev pub store_rules : Terms (SeenAt (Kept (Store D g))) C P
   store_rules = rules (kept_meaning (in_use store_meaning)) gives (Renews opens) MayWait does
 
-  -- clients were served by a store, whenever it was opened again, or by what stood in its place,
-  -- and what stands there in the end may be called;
-  -- and if it was live when this began, all that was done is a course of what happened to it, begun
-  -- anew only where an opening was refused or a store opened anew
+  -- Clients were served by a store, whenever it was opened again, or by what stood in its place. What
+  -- stands there in the end may be called. All that was done is a course of what happened to it, if
+  -- what was there first is live where an opening may find anything of it. It begins anew only where
+  -- an opening was refused or a store opened anew.
   pub record ServesStore (first : Kept (Store D g)) (moments : C) (peers : P) (most : ℕ)
       (moments_now : C)
       (peers_now : P) (result : Result Served Fault) : Type 0 where
@@ -82,7 +96,7 @@ module _ {D : Type 0} {g : disk.Ghosts D} {C P : Type 0}
         ServesClients store_rules (Whole first) moments peers most (Whole kept) moments_now
         peers_now result
     pub course :
-        IsLiveKept store_meaning.ledgers first
+        IsFoundLiveKept first
         → HasLed kept_store
         (IsSince (renewal_seen opens) (empty_hall (Whole first) moments peers) served.deeds
         served.last served.served) kept

@@ -65,3 +65,10 @@ module _ {D : Type 0} {g : disk.Ghosts D} where
     pub has : HasSettled moment settler.search searched old new told
     pub goes_on : settler'.search ≡ search_behind told searched
     pub notes : NotesPiece told settler'.search settler.behind settler'.behind
+
+  -- so it is at the moment that was given for it
+  pub record SettlesNow {C : Type 0} (gives : C → ℕ → C → Type 0) (moments moments_now : C)
+      (settler settler' : Settler) (old new : Store D g) : Type 0 where
+    pub moment : ℕ
+    pub given : gives moments moment moments_now
+    pub piece : SettlesPiece moment settler settler' old new

@@ -15,7 +15,7 @@ use crate::stores::may_be_called;
 use chain::InUse;
 use command_line::LimitWords;
 use command_texts::{Fault, tell_fault};
-use listener::{Bell, Listening, RisingClock, Site, SystemMoments, asked_address, limits_of};
+use listener::{Bell, Listening, Site, SystemMoments, asked_address, limits_of};
 use metered_disk::Meter;
 use records::Streamed;
 use sqlite::Files;
@@ -29,7 +29,7 @@ use store::Store;
 pub type HostService<'a> = EndedService<
     ServedFile<'a>,
     Listening<'a>,
-    SystemMoments<'a, RisingClock<'a, HostRuntime>>,
+    SystemMoments<'a, HostRuntime>,
     HostDesk<'a>,
 >;
 
@@ -153,7 +153,8 @@ pub fn serve_file<'a>(
     most: u64,
 ) -> Result<HostService<'a>, Fault>
     ensures address_first { IsNoAddress (text_in address.entry) → result ≡ Err Fault.BadAddress }
-    ensures served { IfOk result (HasServedFile (text_in address.entry) port standby most) }
+    ensures served { IfOk result (λ ended. HasServedFile (text_in address.entry) port standby most
+        ended (λ moments. moments.told)) }
     ensures stopped { IfOk result
         (λ ended. ended.why ≡ Served.Stopped → IsTrue ended.orders.is_stopping) }
     ensures fault { IfErr result (λ fault. RefusesSome ⟦<ServedFile<'a> as Disk>⟧ fault
@@ -169,18 +170,9 @@ pub fn serve_file<'a>(
         desk.open();
         home.tell_serving();
     }
-    let moments = SystemMoments::new(&site.clock);
+    let moments = SystemMoments::new(site.rt);
     let alloc = site.rt.alloc();
-    match serve_to_end(
-        alloc,
-        listening,
-        &home,
-        store,
-        moments,
-        &site.clock,
-        desk,
-        most,
-    ) {
+    match serve_to_end(alloc, listening, &home, store, moments, site.rt, desk, most) {
         Ok(ended) => Ok(ended),
         Err((fault, desk)) => {
             desk.close();

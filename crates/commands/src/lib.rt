@@ -27,7 +27,7 @@ mod stores;
 mod whole_program;
 
 pub use file_serving::{HostService, serve_file};
-pub use laws::{pieces_are_read_back, pieces_make_the_whole};
+pub use laws::{pieces_are_read_back, pieces_make_the_whole, settling_shows_nowhere};
 pub use orders::{Done, Order, Orders};
 pub use reasons::{Place, tell_file_fault};
 pub use renewing::Home;

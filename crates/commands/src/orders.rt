@@ -116,7 +116,7 @@ pub(crate) fn carry_out<D: Disk + Drop, O: Orders>(
     order: &Order,
 )
     ensures told { IsToldOfOrder O.tells order.now orders.old kept.old orders.new kept.new }
-    ensures renews { Attends kept.old kept.new }
+    ensures renews { Attends None kept.old kept.new }
 {
     match kept {
         Kept::Open(store) => {

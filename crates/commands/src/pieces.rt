@@ -62,7 +62,7 @@ pub(crate) fn next_part<D: Disk + Drop>(
 ) -> Option<Part>
     ensures told { IfSome result (λ part. IsLive store.new
         → IsPart [] (tenants_of store.new rest.now.digest) rest.now part) }
-    ensures tried { IsTried store.old store.new }
+    ensures tried { IsTried rest.now store.old store.new }
 {
     let read = rest.part(alloc, store, b"");
     is_settled(store);

@@ -2,6 +2,7 @@
 //! are carried out on it, and holds that are due are released.
 ghost use Rattle.std.specs.Prelude.{◌≡◌, ◌*◌, min, false, IfErr, IfOk, IsTrue, OnErr, OnOk};
 ghost use Rattle.chain.specs.Backends.{in_use};
+ghost use Rattle.polling.specs.Serving.{HasAttended};
 ghost use Rattle.service.specs.Openings.{run_meaning, IsSettled, IsOpened};
 ghost use Rattle.store.specs.Stores.{AnswersCalls};
 ghost use Rattle.store.specs.StoreLaws.{store_meaning};
@@ -22,6 +23,7 @@ use command_texts::Fault;
 use parts::{Part, Rest};
 use polling::Steward;
 use records::Unavailable;
+use service::Moments;
 use sqlite::Files;
 use sqlite_disk::Disk;
 use std::alloc::Global;
@@ -136,7 +138,7 @@ impl<H, K: Clock, O: Orders> Stops for Renewing<'_, H, K, O> {
 
 impl<D: Disk + Drop, H: Home<D>, K: Clock, O: Orders> Steward<Kept<InUse<Store<D>>>>
     for Renewing<'_, H, K, O> {
-    ghost renews = { λ old new. Renews H.opens old new };
+    ghost renews = { λ given old new. Renews H.opens given old new };
 
     ghost waits = { MayWait };
 
@@ -147,12 +149,12 @@ impl<D: Disk + Drop, H: Home<D>, K: Clock, O: Orders> Steward<Kept<InUse<Store<D
         }
     }
 
-    fn attend(&mut self, kept: &mut Kept<InUse<Store<D>>>) {
+    fn attend<C: Moments>(&mut self, kept: &mut Kept<InUse<Store<D>>>, moments: &mut C) {
         match self.orders.next(is_answering(kept)) {
             Some(order) => carry_out(self.alloc, kept, &mut self.orders, &order),
             None => {
                 if is_answering(kept) {
-                    settle(self.home, self.clock, &mut self.settler, kept);
+                    settle(self.home, self.clock, moments, &mut self.settler, kept);
                 } else {
                     self.settler.begin();
                     renew(self.home, self.clock, &mut self.pause, kept);
@@ -174,19 +176,20 @@ impl<D: Disk + Drop, H: Home<D>, K: Clock, O: Orders> Steward<Kept<InUse<Store<D
 }
 
 // Releases a piece of what is due, unless it is rested from the last one.
-fn settle<D: Disk + Drop, H: Home<D>, K: Clock>(
+fn settle<D: Disk + Drop, H: Home<D>, K: Clock, C: Moments>(
     home: &H,
     clock: &K,
+    moments: &mut C,
     settler: &mut Settler,
     kept: &mut Kept<InUse<Store<D>>>,
 )
-    ensures { Attends kept.old kept.new }
+    ensures { HasAttended C.gives Attends kept.old moments.old kept.new moments.new }
 {
     if settler.rests(clock) {
         return;
     }
     if let Kept::Open(store) = kept {
-        settler.settle(clock, store);
+        settler.settle(clock, moments, store);
         home.settles(settler.is_busy());
     }
 }
@@ -199,7 +202,7 @@ fn renew<D: Disk + Drop, H: Home<D>, K: Clock>(
     kept: &mut Kept<InUse<Store<D>>>,
 )
     requires { answers kept.old ≡ false }
-    ensures { Renews H.opens kept.old kept.new }
+    ensures { Renews H.opens None kept.old kept.new }
 {
     if !is_time(clock, *pause) {
         return;
@@ -318,7 +321,7 @@ fn opened_again<D: Disk + Drop, H: Home<D>>(
 ) -> Result<(), Fault>
     requires { answers kept.old ≡ false }
     ensures answers { OnOk result (IsTrue (answers kept.new)) }
-    ensures renews { Renews H.opens kept.old kept.new }
+    ensures renews { Renews H.opens None kept.old kept.new }
     ensures fault { IfErr result IsOpeningFault }
 {
     match kept {

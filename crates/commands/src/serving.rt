@@ -7,8 +7,8 @@ ghost use Rattle.commands.specs.Serving.{ServesClients};
 use chain::Rounds;
 use command_texts::Fault;
 use polling::{
-    Peers, Seats, Steward, each_is_served, serve_ready, serving_begins_empty, serving_goes_on,
-    serving_is_a_course, write_rest,
+    Peers, Seats, Steward, each_is_served, moments_rise, only_what_is_asked_is_booked, serve_ready,
+    serving_begins_empty, serving_goes_on, serving_is_a_course, write_rest,
 };
 use service::Moments;
 use std::alloc::Global;
@@ -54,6 +54,8 @@ pub(crate) fn serve_clients<L: Rounds, H: Steward<L> + Stops, C: Moments, P: Pee
     serving_begins_empty::<L, C, P>();
     each_is_served::<L, H, C, P>();
     serving_is_a_course::<L, H, C, P>();
+    only_what_is_asked_is_booked::<L, H, C, P>();
+    moments_rise::<L, H, C, P>();
     serving_goes_on::<L, H, C, P>();
     H::is_settled(ledgers);
     let mut seats = Seats::new(alloc);

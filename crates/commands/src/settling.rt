@@ -1,19 +1,19 @@
 //! Holds that are due are released between turns, a piece at a time.
-ghost use Rattle.std.specs.Prelude.{◌≡◌, ℕ, IsTrue};
+ghost use Rattle.std.specs.Prelude.{◌≡◌, IsTrue};
 ghost use Rattle.chain.specs.Backends.{in_use};
 ghost use Rattle.service.specs.Courses.{Tried};
 ghost use Rattle.service.specs.Openings.{run_meaning, Moves};
 ghost use Rattle.stored_ledgers.specs.Overdue.{BeginsSearch};
 ghost use Rattle.store.specs.StoreLaws.{store_meaning};
 ghost use Rattle.commands.specs.Behind.{IsEmpty, AsksForOneBehind, NotesPiece, NotesTold, search_behind};
-ghost use Rattle.commands.specs.Settling.{GivesSettled, HasSettled, SettlesPiece, SettlesBy, batch_ending, settling};
+ghost use Rattle.commands.specs.Settling.{GivesSettled, HasSettled, SettlesNow, SettlesBy, batch_ending, settling};
 
 use crate::behind::Behind;
 use crate::stores::{is_settled, may_be_called};
 use chain::{BatchFault, InUse, Ledgers, Tables, Work, run_transfers};
 use ledger_http::asked;
-use listener::moment_of;
 use records::Unavailable;
+use service::Moments;
 use sqlite_disk::Disk;
 use std::alloc::Global;
 use std::time::{Clock, Duration};
@@ -150,17 +150,17 @@ impl Settler {
         self.behind.clear();
     }
 
-    /// Looks at some tenants, and releases a piece of what is due at one of them by the clock's
-    /// moment.
-    pub(crate) fn settle<D: Disk + Drop, K: Clock>(
+    /// Looks at some tenants, and releases a piece of what is due at one of them by the moment.
+    pub(crate) fn settle<D: Disk + Drop, K: Clock, C: Moments>(
         &mut self,
         clock: &K,
+        moments: &mut C,
         store: &mut InUse<Store<D>>,
     )
-        ensures { (moment : ℕ) × SettlesPiece moment self.old self.new store.old store.new }
+        ensures { SettlesNow C.gives moments.old moments.new self.old self.new store.old store.new }
     {
         let begun = clock.monotonic().unwrap_or(Duration::ZERO);
-        let moment = moment_of(clock);
+        let moment = moments.moment();
         let settled = settle_next(self.alloc, store, &mut self.search, moment);
         let ended = clock.monotonic().unwrap_or(Duration::ZERO);
         let rest = self.rest_behind(settled, ended.saturating_sub(begun));

@@ -1,3 +1,4 @@
 pub mod GivenLimits
 pub mod Listening
+pub mod Moments
 pub mod Tally

@@ -2,7 +2,6 @@
 
 use crate::bell::Bell;
 use crate::events::Events;
-use crate::moments::RisingClock;
 use metered_disk::Meter;
 use polling::Batch;
 use sockets::{Counts, Operator};
@@ -18,8 +17,6 @@ pub struct Site<'a> {
     pub bell: Bell,
     /// What the disk of its file has done.
     pub meter: Meter,
-    /// The clock by which messages are given their moments.
-    pub clock: RisingClock<'a, HostRuntime>,
 }
 
 impl<'a> Site<'a> {
@@ -29,7 +26,6 @@ impl<'a> Site<'a> {
             rt,
             bell: Bell::new(),
             meter: Meter::new(),
-            clock: RisingClock::new(rt),
         }
     }
 }

@@ -15,5 +15,5 @@ pub use events::Events;
 pub use given_limits::limits_of;
 pub use hosting::Site;
 pub use listening::{Listening, asked_address};
-pub use moments::{RisingClock, SystemMoments, moment_of};
+pub use moments::SystemMoments;
 pub use tally::Tally;

@@ -1,22 +1,36 @@
-ghost use Rattle.std.specs.Prelude.{◌≡◌, ◌-◌, ◌^◌, min, max, ⊤};
+ghost use Rattle.std.specs.Prelude.{◌≡◌, ◌≤◌, ◌-◌, ◌^◌, min, max};
 ghost use Rattle.std.specs.Duration.{as_nanos};
+ghost use Rattle.listener.specs.Moments.{moment_at};
 
 use service::Moments;
-use std::cell::Cell;
 use std::io;
 use std::time::{Clock, Duration};
 
-/// Moments of the machine's clock, in nanoseconds since 1970: 0 where it stands before 1970 or
-/// cannot be read, and the latest moment where it stands beyond that.
+/// Moments of the machine's clock, in nanoseconds since 1970, which do not fall. Where the clock is
+/// set back, or cannot be read, the last one is given again, which is 0 at first. Where it stands
+/// beyond the latest moment, that is given.
 #[derive(Drop)]
 pub struct SystemMoments<'a, R: Clock> {
     clock: &'a R,
+    /// The one that was given last.
+    told: u64,
 }
 
 impl<'a, R: Clock> SystemMoments<'a, R> {
-    /// Moments of this clock.
-    pub fn new(clock: &'a R) -> Self {
-        SystemMoments { clock }
+    /// Moments of this clock, of which none was given yet.
+    pub fn new(clock: &'a R) -> Self
+        ensures { result.told ≡ 0 }
+    {
+        SystemMoments { clock, told: 0 }
+    }
+
+    // The moment of a time that the clock has told, or the last one, whichever is later.
+    fn advance(&mut self, told: io::Result<Duration>) -> u64
+        ensures later { result ≡ max self.old.told (moment_at told) }
+        ensures told { self.new.told ≡ result }
+    {
+        self.told = self.told.max(moment_at(told));
+        self.told
     }
 }
 
@@ -27,62 +41,22 @@ fn nanoseconds(time: Duration) -> u64
     u64::try_from(time.as_nanos()).unwrap_or(u64::MAX)
 }
 
-/// The moment of a clock, as `SystemMoments` has it.
-pub fn moment_of<R: Clock>(clock: &R) -> u64 {
-    match clock.since_1970() {
+// The moment of a time since 1970, 0 where the clock could not be read.
+fn moment_at(told: io::Result<Duration>) -> u64
+    ensures { result ≡ moment_at told }
+{
+    match told {
         Ok(time) => nanoseconds(time),
         Err(_) => 0,
     }
 }
 
 impl<R: Clock> Moments for SystemMoments<'_, R> {
-    // The clock may tell any moment.
-    ghost gives = { λ _ _ _. ⊤ };
+    // Each is told from then on, and none is before the last.
+    ghost gives = { λ old moment new. (moment ≡ new.told) × (old.told ≤ new.told) };
 
     fn moment(&mut self) -> u64 {
-        moment_of(self.clock)
-    }
-}
-
-/// A clock whose time since 1970 does not fall: where the clock beneath it is set back, or cannot
-/// be read, it tells again what it told last.
-#[derive(Drop)]
-pub struct RisingClock<'a, R: Clock> {
-    clock: &'a R,
-    /// What it told last.
-    told: Cell<Duration>,
-}
-
-impl<'a, R: Clock> RisingClock<'a, R> {
-    /// One that has told nothing.
-    pub fn new(clock: &'a R) -> Self {
-        RisingClock {
-            clock,
-            told: Cell::new(Duration::ZERO),
-        }
-    }
-}
-
-// The later one of two times.
-fn later(one: Duration, other: Duration) -> Duration
-    ensures { as_nanos result ≡ max (as_nanos one) (as_nanos other) }
-{
-    one.max(other)
-}
-
-impl<R: Clock> Clock for RisingClock<'_, R> {
-    fn monotonic(&self) -> io::Result<Duration> {
-        self.clock.monotonic()
-    }
-
-    fn since_1970(&self) -> io::Result<Duration> {
-        let time = self.clock.since_1970().unwrap_or(Duration::ZERO);
-        let time = later(self.told.get(), time);
-        self.told.set(time);
-        Ok(time)
-    }
-
-    fn sleep(&self, duration: Duration) {
-        self.clock.sleep(duration);
+        let told = self.clock.since_1970();
+        self.advance(told)
     }
 }

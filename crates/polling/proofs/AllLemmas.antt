@@ -7,7 +7,7 @@ use Rattle.polling.specs.Peers.{Asked, Closed, Said}
 use Rattle.polling.specs.Standing.{Standing, Away, Kept, Debt, A_seat, A_turn, Owing, owing, rested, with_standing, stands_behind, StandsIn, told_of, turns_of, AreSomeOf, OwesOnly, KeepsOnly}
 use Rattle.polling.specs.Kinds.{IsPutOff}
 use Rattle.polling.specs.declared.peers.Told.{Told}
-use Rattle.polling.specs.Serving.{Hall, hall, Terms, gone_with, IsNumberFree, Occurs, Tells, Stirs, Puts_off, Again, Begin}
+use Rattle.polling.specs.Serving.{Hall, hall, Terms, gone_with, IsGiven, IsNumberFree, Occurs, Tells, Stirs, Puts_off, Again, Begin}
 use Rattle.polling.specs.Seating.{with_talk, AreSame, HadNone, held, Held, HoldsHall, LeadsAll, LeadsOwed, ServesAll, ServesOwed, ServesEach}
 use Rattle.polling.proofs.OneLemmas.{once, serves_on, replies_both, with_talk-own, with_talk-other}
 use Rattle.polling.proofs.GoingLemmas.{unseated_closes}
@@ -432,12 +432,22 @@ module _ {S C P : Type 0} where
 
   -- a steward has attended to the ledgers
   pub again_all :
-      {r : Terms S C P} {ledgers ledgers_now : S} {moments : C} {peers : P}
-      {seats : ℕ → Option Talk} {next : ℕ} → r.renews ledgers ledgers_now →
-      ServesEach r (held ledgers moments peers seats next) (held ledgers_now moments peers seats next) 0
-  again_all {r} {ledgers} {ledgers_now} {moments} {peers} {seats} {next} renews =
-      other_ledgers r (held ledgers moments peers seats next) ledgers_now
-      (λ all are. Again ledgers_now (subst (λ (l : S). r.renews l ledgers_now) (sym are) renews))
+      {r : Terms S C P} {ledgers ledgers_now : S} {moments moments_now : C} {peers : P}
+      {seats : ℕ → Option Talk} {next : ℕ} (given : Option ℕ) →
+      IsGiven r.gives moments given moments_now → r.renews given ledgers ledgers_now →
+      ServesEach r (held ledgers moments peers seats next)
+      (held ledgers_now moments_now peers seats next) 0
+  again_all {r} {ledgers} {ledgers_now} {moments} {moments_now} {peers} {seats} {next} given asked renews =
+      let old = held ledgers moments peers seats next in
+      apart r old (held ledgers_now moments_now peers seats next)
+      (λ (room : Room S C). record room { ledgers = ledgers_now; moments = moments_now })
+      (λ all keeps. (
+        Again ledgers_now moments_now given
+            (subst (λ (m : C). IsGiven r.gives m given moments_now) (sym keeps.moments) asked)
+            (subst (λ (l : S). r.renews given l ledgers_now) (sym keeps.ledgers) renews),
+        keeps_room old all (record all.room { ledgers = ledgers_now; moments = moments_now })
+            all.stands ledgers_now moments_now refl refl refl keeps.stands keeps,
+      ))
 
   -- a number is passed over
   pub passed_over :

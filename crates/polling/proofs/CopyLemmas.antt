@@ -116,7 +116,7 @@ copied_as_before seats seats_now members messages same copied =
     (fun_ext (λ client. sym (same client))) copied
 
 module _ {S C P : Type 0} (t : LedgersMeaning S) (gives : C → ℕ → C → Type 0)
-    (renews : S → S → Type 0) (waits : List ℕ → Type 0) (does : P → Doing → P → Type 0) where
+    (renews : Option ℕ → S → S → Type 0) (waits : List ℕ → Type 0) (does : P → Doing → P → Type 0) where
   -- moments were given for messages that are answered otherwise
   pub only_copied :
       (ledgers : S) (moments moments_now : C) (peers : P) (seats seats_now : ℕ → Option Talk)

@@ -1,5 +1,5 @@
 -- Serving as a course, step by step.
-use Rattle.std.proofs.Common.{◌≡◌, ◌⊎◌, inl, inr, refl, sym, subst, ℕ, Bool, List, [], ◌∷◌, ◌++◌}
+use Rattle.std.proofs.Common.{◌≡◌, ◌⊎◌, inl, inr, refl, sym, subst, ℕ, Bool, List, [], ◌∷◌, ◌++◌, Option}
 use Rattle.std.proofs.Math.Path.{fun_ext}
 use Rattle.std.proofs.lemmas.List.{append-nil}
 use Rattle.std.specs.List.{AllByRecursion, flat_map}
@@ -11,7 +11,8 @@ use Rattle.service.specs.Connections.{Connection, IsFirstAnswered, IsTurnedAway,
 use Rattle.service.specs.ConnectionEvents.{event_in}
 use Rattle.service.specs.Courses.{Event, Reopened, IsStill, HappenInTurn, untold_in}
 use Rattle.service.specs.Courses as course
-use Rattle.service.specs.Openings.{RunMeaning, run_meaning, IsSettled, ResponsesMove, MayBegin}
+use Rattle.service.specs.Openings.{RunMeaning, run_meaning, IsSettled, IsFoundLive}
+use Rattle.service.specs.Openings.{ResponsesMove, MayBegin}
 use Rattle.service.specs.Openings.{HasLed, GoesOn, IsFree, FoundAfterAll, All_as_now, All_as_before, All_done}
 use Rattle.service.specs.OpeningLaws.{event_more, events_more, same_more, opened_more, begun_anew, none_yet}
 use Rattle.service.specs.EventLaws.{all_append, unavailable_tells_nothing, still_happen}
@@ -70,22 +71,22 @@ rest_more t Since Now old new rest on led =
 
 -- so does what a steward does
 opening_more :
-    {S : Type 0} (t : RunMeaning S) (Since Now : List Event → Tenants → Type 0) (old new : S)
-    (renewed : Renewed t old new) →
+    {S : Type 0} (t : RunMeaning S) (Since Now : List Event → Tenants → Type 0) (given : Option ℕ)
+    (old new : S) (renewed : Renewed t given old new) →
     ((events : List Event) → AreOfOpening renewed events → GoesOn Since events Now) →
     (IsAnew renewed → (began : Tenants) → MayBegin t new began → Now [] began) →
     HasLed t Since old → HasLed t Now new
-opening_more t Since Now old new (Stayed same) on anew led =
+opening_more t Since Now given old new (Stayed same) on anew led =
     subst (HasLed t Now) (sym same) (same_more Since Now t old (on [] refl) led)
-opening_more t Since Now old new (Opened opened) on anew led =
+opening_more t Since Now given old new (Opened opened) on anew led =
     opened_more Since Now t old new
     (λ (deeds : List service.Deed). on (Reopened deeds ∷ []) (deeds, refl)) opened led
-opening_more t Since Now old new (Anew settled) on anew led = begun_anew t Now new (anew tt)
-opening_more t Since Now old new (Refused dead) on anew led = begun_anew t Now new (anew tt)
-opening_more t Since Now old new (Tried deed ending moves) on anew led =
+opening_more t Since Now given old new (Anew settled) on anew led = begun_anew t Now new (anew tt)
+opening_more t Since Now given old new (Refused dead) on anew led = begun_anew t Now new (anew tt)
+opening_more t Since Now given old new (Tried deed ending may moves) on anew led =
     event_more Since Now t old new (course.Tried deed ending)
     (on (course.Tried deed ending ∷ []) refl) (λ events. tt) moves led
-opening_more t Since Now old new (Rested rest) on anew led =
+opening_more t Since Now given old new (Rested rest) on anew led =
     rest_more t Since Now old new rest (on [] refl) led
 
 -- so do ledgers of the same machines, of which nothing is told
@@ -217,9 +218,9 @@ module _ {S C P : Type 0} (r : Terms S C P) (move : ResponsesMove r.means) (rene
       same_more Since Now (run_meaning r.means) last.room.ledgers (on [] refl) led
   one_more Since Now last next more (Goes client peers may) on anew led =
       same_more Since Now (run_meaning r.means) last.room.ledgers (on [] refl) led
-  one_more Since Now last next more (Again ledgers renewed) on anew led =
-      opening_more (run_meaning r.means) Since Now last.room.ledgers ledgers
-      (renewals last.room.ledgers ledgers renewed) on
+  one_more Since Now last next more (Again ledgers moments given asked renewed) on anew led =
+      opening_more (run_meaning r.means) Since Now given last.room.ledgers ledgers
+      (renewals given last.room.ledgers ledgers renewed) on
       (λ is began may. anew began (is, may)) led
   one_more Since Now last next more (Passes moments given passed) on anew led =
       same_more Since Now (run_meaning r.means) last.room.ledgers (on [] refl) led
@@ -232,7 +233,7 @@ module _ {S C P : Type 0} (r : Terms S C P) (move : ResponsesMove r.means) (rene
 
   all_led :
       (first last : Hall S C P) (deeds : List Act) (serves : Proceeds S C P r first deeds last) →
-      r.means.is_live first.room.ledgers →
+      IsFoundLive (run_meaning r.means) first.room.ledgers →
       IsSettled (run_meaning r.means) first.room.ledgers →
       HasLed (run_meaning r.means) (IsSince renewals first deeds last serves) last.room.ledgers
   all_led first last deeds Begin live settled =

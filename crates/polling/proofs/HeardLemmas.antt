@@ -105,7 +105,7 @@ module _ {S C P : Type 0} (r : Terms S C P) where
   step_heard hear exchanges last next more (Puts_off who peers is does) client later may = Nothing
   step_heard hear exchanges last next more (Joins who away) client later may = Nothing
   step_heard hear exchanges last next more (Goes who peers may_go) client later may = Nothing
-  step_heard hear exchanges last next more (Again ledgers renews) client later may = Nothing
+  step_heard hear exchanges last next more (Again ledgers moments given asked renews) client later may = Nothing
   step_heard hear exchanges last next more (Rests ledgers same) client later may = Nothing
   step_heard hear exchanges last next more (Passes moments given passed) client later may = Nothing
   step_heard hear exchanges last next more (Fails deeds room ledgers stands lives told failed begun) client later
@@ -153,7 +153,7 @@ module _ {S C P : Type 0} (r : Terms S C P) where
   step_may might last next more (Puts_off who peers is does) client later may = may
   step_may might last next more (Joins who away) client later may = may
   step_may might last next more (Goes who peers may_go) client later may = may
-  step_may might last next more (Again ledgers renews) client later may = may
+  step_may might last next more (Again ledgers moments given asked renews) client later may = may
   step_may might last next more (Rests ledgers same) client later may = may
   step_may might last next more (Passes moments given passed) client later may = may
   step_may might last next more (Fails deeds room ledgers stands lives told failed begun) client later may =
@@ -213,7 +213,7 @@ module _ {S C P : Type 0} (r : Terms S C P) where
       sym (append-nil (owed before (last.room.talks client)))
   step_written written last next more (Goes who peers may_go) before client yet =
       sym (append-nil (owed before (last.room.talks client)))
-  step_written written last next more (Again ledgers renews) before client yet =
+  step_written written last next more (Again ledgers moments given asked renews) before client yet =
       sym (append-nil (owed before (last.room.talks client)))
   step_written written last next more (Rests ledgers same) before client yet =
       sym (append-nil (owed before (last.room.talks client)))

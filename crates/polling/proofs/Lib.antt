@@ -6,6 +6,7 @@ pub mod FinishLemmas
 pub mod OneLemmas
 pub mod ThenLemmas
 pub mod AllLemmas
+pub mod AttendLemmas
 pub mod SeatLemmas
 pub mod CloseLemmas
 pub mod ToldLemmas
@@ -13,6 +14,8 @@ pub mod TurnLemmas
 pub mod LifeLemmas
 pub mod HeardLemmas
 pub mod CourseLemmas
+pub mod AskedLemmas
+pub mod RisingLemmas
 pub mod OnwardLemmas
 pub mod RoundLemmas
 pub mod LostLemmas

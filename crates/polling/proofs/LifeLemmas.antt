@@ -1,12 +1,12 @@
 -- Serving as a run of deeds.
-use Rattle.std.proofs.Common.{◌≡◌, refl, sym, ap, ◌∙◌, subst, ℕ, List, [], ◌++◌, Option, Some, is_some, arith}
+use Rattle.std.proofs.Common.{◌≡◌, refl, sym, ap, ◌∙◌, subst, ℕ, List, [], ◌++◌, Option, Some, None, is_some, arith}
 use Rattle.std.proofs.lemmas.Bool.{false≢true}
 use Rattle.std.proofs.lemmas.List.{append-nil}
 use Rattle.clients.specs.Deeds.{Room, Act, Lives}
 use Rattle.service.specs.InTurn.{Nothing, More}
 use Rattle.clients.specs.Talk.{Talk}
 use Rattle.polling.specs.Serving.{Hall, Terms, Occurs, Did, Tells, Stirs, Puts_off, Joins, Goes, Again, Rests, Passes, Fails, Begin, Then}
-use Rattle.polling.specs.Serving.{rounds_of, rounds_in}
+use Rattle.polling.specs.Serving.{IsGiven, rounds_of, rounds_in}
 use Rattle.polling.specs.Standing.{Away, StandsIn}
 use Rattle.polling.specs.Laws.{AreLives, BeginsEmpty}
 use Rattle.polling.specs.Seating.{seats_in}
@@ -20,7 +20,8 @@ stays {S} {C} r first last deeds lives =
     subst (λ (all : List Act). Lives S C r.means r.gives first all last) (sym (append-nil deeds)) lives
 
 one_more :
-    {S C P : Type 0} (r : Terms S C P) → ((old new : S) → r.renews old new → new ≡ old) →
+    {S C P : Type 0} (r : Terms S C P) →
+    ((given : Option ℕ) (old new : S) → r.renews given old new → (given ≡ None) × (new ≡ old)) →
     (first : Room S C) (last next : Hall S C P) (deeds more : List Act) →
     Lives S C r.means r.gives first deeds last.room → (happens : Occurs S C P r last more next) →
     rounds_of happens ≡ 0 →
@@ -37,11 +38,17 @@ one_more r same first last next deeds more lives (Joins client away) none =
     stays r first last.room deeds lives
 one_more r same first last next deeds more lives (Goes client peers may) none =
     stays r first last.room deeds lives
-one_more {S} {C} r same first last next deeds more lives (Again ledgers renews) none =
+one_more {S} {C} r same first last next deeds more lives (Again ledgers moments given asked renews) none =
+    let is = same given last.room.ledgers ledgers renews in
+    let unasked : moments ≡ last.room.moments =
+    subst (λ (g : Option ℕ). IsGiven r.gives last.room.moments g moments) is.0 asked in
     subst
     (λ (l : S).
-    Lives S C r.means r.gives first (deeds ++ []) (record last.room { ledgers = l }))
-    (sym (same last.room.ledgers ledgers renews)) (stays r first last.room deeds lives)
+    Lives S C r.means r.gives first (deeds ++ []) (record last.room { ledgers = l; moments = moments }))
+    (sym is.1)
+    (subst
+    (λ (m : C). Lives S C r.means r.gives first (deeds ++ []) (record last.room { moments = m }))
+    (sym unasked) (stays r first last.room deeds lives))
 one_more r same first last next deeds more lives (Rests ledgers before) none =
     absurd (omega (arith, none))
 one_more r same first last next deeds more lives (Passes moments given passed) none =

@@ -172,7 +172,7 @@ pub record AreToldSoFar {S C P : Type 0} (t : LedgersMeaning S) (gives : C → �
       → HasTold t gives messages left ledgers last peers seats_now next count first
 
 module _ {S C P : Type 0} (t : LedgersMeaning S) (gives : C → ℕ → C → Type 0)
-    (renews : S → S → Type 0) (waits : List ℕ → Type 0) (does : P → Doing → P → Type 0) where
+    (renews : Option ℕ → S → S → Type 0) (waits : List ℕ → Type 0) (does : P → Doing → P → Type 0) where
   -- nobody is told yet
   pub told_none :
       (messages : List Message) (seats : ℕ → Option Talk) (members : List Member) →

@@ -1,5 +1,5 @@
 -- One client among all: what is done for it is done in a hall.
-use Rattle.std.proofs.Common.{◌≡◌, ◌≢◌, refl, ap, sym, ◌∙◌, subst, ℕ, Bool, true, false, List, [], ◌∷◌, ◌++◌, append_assoc, length, ◌+◌, take, Option, Some}
+use Rattle.std.proofs.Common.{◌≡◌, ◌≢◌, refl, ap, sym, ◌∙◌, subst, ℕ, Bool, true, false, List, [], ◌∷◌, ◌++◌, append_assoc, length, ◌+◌, take, Option, Some, None}
 use Rattle.std.proofs.lemmas.Bool.{true≢false}
 use Rattle.std.proofs.lemmas.List.{append-nil, take-append-drop, length-append}
 use Rattle.std.proofs.lemmas.Grind.{flat_map-append}
@@ -239,11 +239,11 @@ module _ {S C P : Type 0} {r : Terms S C P} {client : ℕ} where
   -- the ledgers were seen to
   pub renewed :
       {ledgers ledgers_now : S} {moments : C} {peers : P} {talk : Talk} →
-      r.renews ledgers ledgers_now →
+      r.renews None ledgers ledgers_now →
       Stays r client ledgers moments peers talk ledgers_now moments peers talk true 0
-  renewed {ledgers_now} does =
+  renewed {ledgers_now} {moments} does =
       happens_once step.More true (λ standing (moved : true ≡ false). absurd (true≢false moved))
-      (λ talks gone stands. Again ledgers_now does)
+      (λ talks gone stands. Again ledgers_now moments None refl does)
 
   -- a deed of it was done, in which so many messages were replied to
   deed_done :

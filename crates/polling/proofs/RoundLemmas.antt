@@ -144,7 +144,7 @@ turns_over last machines (message ∷ messages) (reply ∷ replies) (inr over) r
 
 -- the replies so far were put, and these are left
 pub record ArePutSoFar {S C P : Type 0} (t : LedgersMeaning S) (gives : C → ℕ → C → Type 0)
-    (renews : S → S → Type 0) (waits : List ℕ → Type 0) (does : P → Doing → P → Type 0) (messages : List Message)
+    (renews : Option ℕ → S → S → Type 0) (waits : List ℕ → Type 0) (does : P → Doing → P → Type 0) (messages : List Message)
     (replies : List Reply) (seats : ℕ → Option Talk) (members : List Member)
     (replies_left : List Reply) (seats_now : ℕ → Option Talk) (count : ℕ) : Type 0 where
   pub left : List Message
@@ -161,7 +161,7 @@ pub record ArePutSoFar {S C P : Type 0} (t : LedgersMeaning S) (gives : C → �
       × AreToBePut t gives ledgers last mid now left replies_left
 
 module _ {S C P : Type 0} (t : LedgersMeaning S) (gives : C → ℕ → C → Type 0)
-    (renews : S → S → Type 0) (waits : List ℕ → Type 0) (does : P → Doing → P → Type 0) where
+    (renews : Option ℕ → S → S → Type 0) (waits : List ℕ → Type 0) (does : P → Doing → P → Type 0) where
   put_one_more :
       RepliesWithin t gives → (ledgers : S) (machines : Tenants) (moments moments_now : C)
       (peers : P) (seats seats_now : ℕ → Option Talk) (next : ℕ) (member : Member)

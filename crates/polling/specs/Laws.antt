@@ -1,5 +1,5 @@
 -- What serving many clients comes to.
-use Rattle.std.specs.Prelude.{◌≡◌, ◌⊎◌, ◌≤◌, ◌+◌, ℕ, false, List}
+use Rattle.std.specs.Prelude.{◌≡◌, ◌⊎◌, ◌≤◌, ◌+◌, ℕ, false, List, Option, None}
 use Rattle.clients.specs.Talk.{new_talk}
 use Rattle.clients.specs.Answering.{MayCome}
 use Rattle.chain.specs.Ledgers.{Tenants}
@@ -63,11 +63,11 @@ EachIsServed {S} {C} {P} r =
     → IsClientServed r.means r.gives (come_from client deeds) later (written_to client deeds)
     (machines_in before serves client) (last.room.talks client)
 
--- where the steward changes nothing and no messages share a round, the deeds are a run of the same
--- ledgers
+-- where the supervisor changes nothing and asks for no moment, and no messages share a round, the
+-- deeds are a run of the same ledgers
 abbrev pub AreLives : {S C P : Type 0} → Terms S C P → Type 0
 AreLives {S} {C} {P} r =
-    ((old new : S) → r.renews old new → new ≡ old)
+    ((given : Option ℕ) (old new : S) → r.renews given old new → (given ≡ None) × (new ≡ old))
     → (first last : Hall S C P) (deeds : List Act)
     → (serves : Proceeds S C P r first deeds last)
     → rounds_in serves ≡ 0

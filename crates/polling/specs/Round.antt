@@ -60,7 +60,7 @@ pub record AreToBePut {S C : Type 0} (t : LedgersMeaning S)
 
 -- the replies of a round that was kept are put to its clients
 abbrev pub ArePut :
-    {S C P : Type 0} → LedgersMeaning S → (C → ℕ → C → Type 0) → (S → S → Type 0)
+    {S C P : Type 0} → LedgersMeaning S → (C → ℕ → C → Type 0) → (Option ℕ → S → S → Type 0)
     → (List ℕ → Type 0) → (P → Doing → P → Type 0) → List Message → List Reply
     → (ℕ → Option Talk) → (ℕ → Option Talk) → ℕ → Type 0
 ArePut {S} {C} {P} t gives renews waits does messages replies seats seats_now count =
@@ -80,7 +80,7 @@ IsLost t old messages new =
 
 -- all clients of a round that was lost are told that the ledgers are unavailable
 abbrev pub AreToldLost :
-    {S C P : Type 0} → LedgersMeaning S → (C → ℕ → C → Type 0) → (S → S → Type 0)
+    {S C P : Type 0} → LedgersMeaning S → (C → ℕ → C → Type 0) → (Option ℕ → S → S → Type 0)
     → (List ℕ → Type 0) → (P → Doing → P → Type 0) → List Message → (ℕ → Option Talk)
     → (ℕ → Option Talk) → ℕ → Type 0
 AreToldLost {S} {C} {P} t gives renews waits does messages seats seats_now count =

@@ -1,5 +1,6 @@
 -- What serving clients at once does.
 use Rattle.std.specs.Prelude.{◌≡◌, ◌≢◌, ◌⊎◌, ◌+◌, refl, ℕ, Bool, true, false, List, [], ◌∷◌, ◌++◌, nat_eq, if◌then◌else◌}
+use Rattle.std.specs.Prelude.{Option, Some, None}
 use Rattle.std.specs.List.{flat_map}
 use Rattle.chain.specs.Ledgers.{LedgersMeaning, Tenants, KeepsAll}
 use Rattle.service.specs.ConnectionEvents.{event_in}
@@ -33,23 +34,24 @@ hall ledgers moments peers talks gone stands = record {
   stands = stands;
 }
 
--- what ledgers mean, which moments are given, what a steward makes of ledgers, which messages it
--- puts off, and what each doing makes of peers
+-- What ledgers mean, and which moments are given. What a supervisor makes of ledgers, given this moment
+-- if it asked for one, and which messages it puts off. What each doing makes of peers.
 pub record Terms (S C P : Type 0) : Type 1 where
   pub means : LedgersMeaning S
   pub gives : C → ℕ → C → Type 0
-  pub renews : S → S → Type 0
+  pub renews : Option ℕ → S → S → Type 0
   pub waits : List ℕ → Type 0
   pub does : P → Doing → P → Type 0
 
 -- a steward attends to ledgers between transactions alone
-abbrev pub renews_seen : {S : Type 0} → (S → S → Type 0) → SeenAt S → SeenAt S → Type 0
-renews_seen renews (Whole old) (Whole new) = renews old new
-renews_seen renews old new = ⊥
+abbrev pub renews_seen :
+    {S : Type 0} → (Option ℕ → S → S → Type 0) → Option ℕ → SeenAt S → SeenAt S → Type 0
+renews_seen renews given (Whole old) (Whole new) = renews given old new
+renews_seen renews given old new = ⊥
 
 -- the rules for ledgers as they are seen between messages
 abbrev pub rules :
-    {S C P : Type 0} → LedgersMeaning S → (C → ℕ → C → Type 0) → (S → S → Type 0)
+    {S C P : Type 0} → LedgersMeaning S → (C → ℕ → C → Type 0) → (Option ℕ → S → S → Type 0)
     → (List ℕ → Type 0) → (P → Doing → P → Type 0) → Terms (SeenAt S) C P
 rules means gives renews waits does = record {
   means = seen means;
@@ -96,6 +98,22 @@ abbrev pub AreGiven : {C : Type 0} → (C → ℕ → C → Type 0) → C → Li
 AreGiven gives first [] last = last ≡ first
 AreGiven {C} gives first (moment ∷ moments) last =
     (next : C) × gives first moment next × AreGiven gives next moments last
+
+-- this moment was given, or none was asked for
+abbrev pub IsGiven : {C : Type 0} → (C → ℕ → C → Type 0) → C → Option ℕ → C → Type 0
+IsGiven gives old (Some moment) new = gives old moment new
+IsGiven gives old None new = new ≡ old
+
+-- a supervisor has attended to ledgers, and asked for no moment, or for one
+pub data HasAttended {S C : Type 0} (gives : C → ℕ → C → Type 0)
+    (renews : Option ℕ → S → S → Type 0) (ledgers : S) (moments : C) (ledgers_now : S)
+    (moments_now : C) : Type 0 where
+  Unasked :
+      moments_now ≡ moments → renews None ledgers ledgers_now →
+      HasAttended gives renews ledgers moments ledgers_now moments_now
+  Asked_once :
+      (moment : ℕ) → gives moments moment moments_now → renews (Some moment) ledgers ledgers_now →
+      HasAttended gives renews ledgers moments ledgers_now moments_now
 
 -- an opening finds what is there, and that only where the ledgers are live
 abbrev pub IsFoundAgain : {S : Type 0} → LedgersMeaning S → S → Type 0
@@ -202,8 +220,10 @@ pub data Occurs (S C P : Type 0) (r : Terms S C P) (old : Hall S C P) :
         stands = with_standing client (leaving (old.stands client)) old.stands;
       })
   Again :
-      (ledgers : S) → r.renews old.room.ledgers ledgers →
-      Occurs S C P r old [] (record old { room = record old.room { ledgers = ledgers } })
+      (ledgers : S) (moments : C) (given : Option ℕ) →
+      IsGiven r.gives old.room.moments given moments → r.renews given old.room.ledgers ledgers →
+      Occurs S C P r old []
+      (record old { room = record old.room { ledgers = ledgers; moments = moments } })
   Rests :
       (ledgers : S) → AreAsBefore r.means old.room.ledgers ledgers →
       Occurs S C P r old [] (record old { room = record old.room { ledgers = ledgers } })

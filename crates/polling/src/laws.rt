@@ -1,12 +1,12 @@
 //! Laws of serving many clients. The functions do nothing; their contracts are the laws.
-ghost use Rattle.polling.specs.Courses.{IsCourse, CoursesServeEachAlone};
+ghost use Rattle.polling.specs.Courses.{IsCourse, CoursesServeEachAlone, BooksOnlyWhatIsAsked, MomentsRise};
 ghost use Rattle.polling.specs.Laws.{EachIsServed, AreLives, BeginsEmpty, GivesOn, ServingGoesOn, EndsTold};
 ghost use Rattle.polling.specs.Serving.{rules};
 
 use crate::{Peers, Steward};
 use chain::Ledgers;
 use clients::clients_are_served_in_rounds;
-use service::{Moments, each_tenant_sees_itself, responses_move_within};
+use service::{Moments, each_tenant_sees_itself, responses_move_within, service_books_nothing};
 
 /// In whatever pieces messages come, whatever others ask between, and whatever the steward does to
 /// the ledgers, what is written to a client is a beginning of the replies to its own messages, in
@@ -34,6 +34,20 @@ pub fn serving_is_a_course<L: Ledgers, H: Steward<L>, C: Moments, P: Peers>()
     responses_move_within::<L>();
     each_tenant_sees_itself();
 }
+
+/// Whatever is booked for a tenant was asked for by a message of its own. Each other deed in such a
+/// course is one that a service may do for a tenant, and books nothing.
+pub fn only_what_is_asked_is_booked<L: Ledgers, H: Steward<L>, C: Moments, P: Peers>()
+    ensures { BooksOnlyWhatIsAsked (rules L.means C.gives H.renews H.waits P.does) }
+{
+    service_books_nothing();
+}
+
+/// Where the moments that are given do not fall, neither do those of such a course. No tenant is
+/// settled to a time that is later than the last moment that was given.
+pub fn moments_rise<L: Ledgers, H: Steward<L>, C: Moments, P: Peers>()
+    ensures { MomentsRise (rules L.means C.gives H.renews H.waits P.does) }
+{}
 
 /// Before anybody has come, all that is held is of a hall in which nobody has sent anything.
 pub fn serving_begins_empty<L: Ledgers, C: Moments, P: Peers>()

@@ -19,7 +19,8 @@ mod turn;
 pub use batch::Batch;
 pub use finishing::write_rest;
 pub use laws::{
-    each_is_served, serving_begins_empty, serving_goes_on, serving_is_a_course, serving_is_a_run,
+    each_is_served, moments_rise, only_what_is_asked_is_booked, serving_begins_empty,
+    serving_goes_on, serving_is_a_course, serving_is_a_run,
 };
 pub use peers::{Peers, Read, Told, Written};
 pub use seats::Seats;

@@ -199,7 +199,7 @@ fn serve_next<L: Rounds, H: Steward<L>, C: Moments, P: Peers>(
     ensures more { result ≢ Done.Nothing →
         TellsMore P.does seats.old.next gathered.old.numbers.items peers.old }
 {
-    steward.attend(ledgers);
+    steward.attend(ledgers, moments);
     let told = peers.told(seats.next);
     if is_over(told, gathered) {
         return Done::Nothing;

@@ -15,4 +15,5 @@ pub mod ConnectionEventsLemmas
 pub mod FindingLemmas
 pub mod RetryLemmas
 mod MovingLemmas
+mod AttendingLemmas
 mod TurnLemmas

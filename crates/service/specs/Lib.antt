@@ -9,6 +9,8 @@ pub mod InTurn
 pub mod Connections
 pub mod Sound
 pub mod Courses
+pub mod Attending
+pub mod Rising
 pub mod Seen
 pub mod OwnDeeds
 pub mod OwnDeedLaws

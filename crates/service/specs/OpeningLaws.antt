@@ -8,7 +8,8 @@ use Rattle.chain.specs.Ledgers.{Tenants, KeepsAll}
 use Rattle.service.specs.Deeds.{Deed, AreDone}
 use Rattle.service.specs.Courses.{Event, Reopened, HappenInTurn, IsStill, untold_in}
 use Rattle.service.specs.Courses.{Begin, Then}
-use Rattle.service.specs.Openings.{RunMeaning, IsSettled, FoundAfter, As_now, As_before, As_done}
+use Rattle.service.specs.Openings.{RunMeaning, IsSettled, IsFoundLive, FoundAfter}
+use Rattle.service.specs.Openings.{As_now, As_before, As_done}
 use Rattle.service.specs.Openings.{FoundAfterAll, All_as_now, All_as_before, All_done}
 use Rattle.service.specs.Openings.{Moves, MovesAll, IsOpened, CourseSince, Leads, MayFind, HasLed}
 use Rattle.service.specs.Openings.{GoesOn, IsFree, MayBegin}
@@ -264,9 +265,9 @@ module _ {S : Type 0} (t : RunMeaning S) (Now : List Event → Tenants → Type 
     }) ∣₁;
   }
 
-  -- at the beginning, over live ledgers
+  -- at the beginning, over ledgers that are live where an opening may find anything
   pub none_yet :
-      (old : S) → t.is_live old → IsSettled t old → Now [] (t.tenants old) → HasLed t Now old
+      (old : S) → IsFoundLive t old → IsSettled t old → Now [] (t.tenants old) → HasLed t Now old
   none_yet old live settled since = record {
     here = λ still_live. ∣ (record {
       events = [];
@@ -280,7 +281,7 @@ module _ {S : Type 0} (t : RunMeaning S) (Now : List Event → Tenants → Type 
       course = record { since = since; course = Begin };
       deeds = [];
       follows = nothing_found [];
-      happens = settled live found may;
+      happens = settled (live found may) found may;
     }) ∣₁;
   }
 

@@ -31,6 +31,10 @@ IsSettled t ledgers =
     t.is_live ledgers → (found : Tenants) → t.may_find ledgers found
     → KeepsAll (t.tenants ledgers) found
 
+-- where an opening may find anything, the ledgers are live: so it is of live ledgers, and of none
+abbrev pub IsFoundLive : {S : Type 0} → RunMeaning S → S → Type 0
+IsFoundLive t ledgers = (found : Tenants) → t.may_find ledgers found → t.is_live ledgers
+
 -- what an opening may find after an event: what is there; or, where the event says nothing of any
 -- tenant, what might have been found before; or the machines after the deeds of which it was
 -- answered that the ledgers are unavailable

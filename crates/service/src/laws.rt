@@ -1,4 +1,5 @@
 //! Laws of responses. The functions do nothing; their contracts are the laws.
+ghost use Rattle.service.specs.Attending.{ServiceBooksNothing};
 ghost use Rattle.service.specs.ConnectionEvents.{ExchangesLeadOn, ConnectionsAreCourses};
 ghost use Rattle.service.specs.ConnectionEvents.{ServesEachAlone};
 ghost use Rattle.service.specs.Courses.{ResponsesHappen};
@@ -89,6 +90,12 @@ pub fn responses_move_within<L: Ledgers>()
 {
     meanings_are_unique();
 }
+
+/// What a service does for a tenant between messages books nothing: no account and no transfer is
+/// added, and no id fails.
+pub fn service_books_nothing()
+    ensures { ServiceBooksNothing }
+{}
 
 /// In a round each message gets one reply, the one in its place: it is the response to that message
 /// alone, over the ledgers as those before it left them.

@@ -24,7 +24,7 @@ pub use laws::{
     failed_in_course_stays_failed, health_tells_nothing, ledgers_are_sound, left_in_course_stays,
     messages_answered_alone, page_tells_nothing, responses_happen, responses_move,
     responses_move_within, retried_in_course_adds_nothing, rounds_answer_each,
-    tenants_are_isolated, told_in_course_stays,
+    service_books_nothing, tenants_are_isolated, told_in_course_stays,
 };
 pub use moments::Moments;
 pub use responding::{begin, respond};

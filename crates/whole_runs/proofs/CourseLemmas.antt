@@ -116,7 +116,7 @@ pub none_yet :
     {S : Type 0} (t : RunMeaning S) (old : S) → t.is_live old → IsSettled t old →
     HasRun t old [] [] old
 none_yet t old live settled =
-    openings.none_yet t (HaveComeSince (t.tenants old) [] []) old live settled Start
+    openings.none_yet t (HaveComeSince (t.tenants old) [] []) old (λ found may. live) settled Start
 
 answers_more :
     (steps : List Step) (answers : List Answer) (step : Step) (answer : Answer) →

@@ -1,5 +1,5 @@
 //! The moments that a clock gives.
-use listener::{RisingClock, SystemMoments};
+use listener::SystemMoments;
 use service::Moments;
 use std::cell::Cell;
 use std::io::{self, ErrorKind};
@@ -45,12 +45,10 @@ fn tells_a_moment_of_this_century(rt: HostRuntime) {
     assert!(rt; moment < 4_102_444_800_000_000_000);
 }
 
-// Two who are given moments of one clock are each given none before what the other was given.
 #[test]
-fn tells_no_moment_before_one_that_was_given(rt: HostRuntime) {
-    let set = Set(Cell::new(None));
-    let clock = RisingClock::new(&set);
-    let (mut one, mut other) = (SystemMoments::new(&clock), SystemMoments::new(&clock));
+fn gives_no_moment_before_one_that_was_given(rt: HostRuntime) {
+    let clock = Set(Cell::new(None));
+    let mut moments = SystemMoments::new(&clock);
     for (time, want) in [
         (None, 0),
         (Some(1000), 1000),
@@ -59,8 +57,7 @@ fn tells_no_moment_before_one_that_was_given(rt: HostRuntime) {
         (Some(1001), 1001),
         (Some(1000), 1001),
     ] {
-        set.0.set(time.map(Duration::from_nanos));
-        assert_eq!(rt; one.moment(), want);
-        assert_eq!(rt; other.moment(), want);
+        clock.0.set(time.map(Duration::from_nanos));
+        assert_eq!(rt; moments.moment(), want);
     }
 }

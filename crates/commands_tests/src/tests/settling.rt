@@ -28,13 +28,25 @@ impl Moments for ByHand<'_> {
     }
 }
 
-/// Such a clock, by whose time since 1970 nothing is ever due.
+/// The same moment each time.
 #[derive(Drop)]
-struct Still<'a>(&'a Hand);
+struct At(u64);
 
-impl Clock for Still<'_> {
+impl Moments for At {
+    ghost gives = { λ _ _ _. ⊤ };
+
+    fn moment(&mut self) -> u64 {
+        self.0
+    }
+}
+
+/// A clock that stands still: by it the pause behind the first look for what is due never ends.
+#[derive(Drop)]
+struct Still;
+
+impl Clock for Still {
     fn monotonic(&self) -> io::Result<Duration> {
-        self.0.monotonic()
+        Ok(Duration::ZERO)
     }
 
     fn since_1970(&self) -> io::Result<Duration> {
@@ -82,12 +94,13 @@ fn with_holds<D: Disk + Drop, F: Firms<D>>(
 
 /// What clients hear who send these messages, so many times each, where so many holds are there.
 /// With each turn a second passes.
-fn heard_with<D: Disk + Drop, F: Firms<D>, K: Clock>(
+fn heard_with<D: Disk + Drop, F: Firms<D>, K: Clock, C: Moments>(
     alloc: Global,
     firms: &F,
     many: u64,
     hand: &Hand,
     clock: &K,
+    moments: &mut C,
     clients: &[(&str, u64)],
 ) -> Result<Vec<u8>, Fail> {
     let Some(store) = with_holds::<D, F>(alloc, firms, many) else {
@@ -105,7 +118,7 @@ fn heard_with<D: Disk + Drop, F: Firms<D>, K: Clock>(
         &mut peers,
         &home,
         Some(store),
-        &mut ByHand(hand),
+        moments,
         clock,
         Silent,
         most,
@@ -126,11 +139,11 @@ fn heard(
     let alloc = rt.alloc();
     let hand = Hand::new();
     let firms = InMemory(alloc);
+    let moments = &mut ByHand(&hand);
     if is_settling {
-        heard_with::<TestDisk, InMemory, Hand>(alloc, &firms, many, &hand, &hand, clients)
+        heard_with::<TestDisk, _, _, _>(alloc, &firms, many, &hand, &hand, moments, clients)
     } else {
-        let clock = Still(&hand);
-        heard_with::<TestDisk, InMemory, Still>(alloc, &firms, many, &hand, &clock, clients)
+        heard_with::<TestDisk, _, _, _>(alloc, &firms, many, &hand, &Still, moments, clients)
     }
 }
 
@@ -161,9 +174,16 @@ fn many_are_released_in_pieces(rt: HostRuntime) -> Result<(), Fail> {
     Ok(())
 }
 
+// The first hold is due at the second 1, and the moment is always a nanosecond before that.
 #[test]
 fn none_is_released_that_is_not_due(rt: HostRuntime) -> Result<(), Fail> {
-    let heard = heard(&rt, 1000, false, &[(LOOKUP, 40)])?;
+    let alloc = rt.alloc();
+    let hand = Hand::new();
+    let (firms, moments) = (InMemory(alloc), &mut At(999_999_999));
+    let clients = &[(LOOKUP, 40)];
+    let heard = heard_with::<TestDisk, _, _, _>(
+        alloc, &firms, 1000, &hand, &hand, moments, clients,
+    )?;
     let sums = pending_in(rt.alloc(), str::from_utf8(heard.as_slice())?)?;
     assert_eq!(rt; sums.len(), 40);
     for sum in &sums {

@@ -8,6 +8,7 @@ use parts::{Part, Rest};
 use plain::Book;
 use polling::Steward;
 use records::Unavailable;
+use service::Moments;
 use std::alloc::Global;
 
 /// What becomes of a round, once all of its messages are answered in it.
@@ -165,11 +166,11 @@ impl Rounds for Frail {
 pub(crate) struct Opens;
 
 impl Steward<Frail> for Opens {
-    ghost renews = { λ old new. ⊤ };
+    ghost renews = { λ given old new. ⊤ };
 
     fn is_settled(_ledgers: &Frail) {}
 
-    fn attend(&mut self, ledgers: &mut Frail) {
+    fn attend<C: Moments>(&mut self, ledgers: &mut Frail, _moments: &mut C) {
         ledgers.is_shut = false;
     }
 

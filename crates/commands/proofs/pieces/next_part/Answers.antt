@@ -4,7 +4,6 @@ use Rattle.chain.specs.Backends.{in_use}
 use Rattle.parts.specs.Parts.{IsPart}
 use Rattle.store.specs.StoreLaws.{store_meaning}
 use Rattle.store.specs.Stores.{IsLive, tenants_of}
-use Rattle.commands.specs.Pieces.{asked_for}
 use Rattle.commands.proofs.PartLemmas.{part_given, read_ending, read_moves}
 use Rattle.commands.proofs.pieces.next_part.Goals as goal
 
@@ -18,15 +17,12 @@ returns-clause-told g c =
 
 pub returns-clause-tried : goal.returns-clause-tried
 returns-clause-tried g c = (
-  asked_for c.args.rest.now.digest c.args.rest.now.account,
-  (
-    read_ending c.part-read.result,
-    read_moves (in_use (store_meaning {D = g.row.D.Denot} {g = g.D.Disk})) c.args.rest.now.digest c.args.rest.now.account
-        c.args.store.now c.part-read.new.ledgers c.part-read.result c.part-read.ensures.reads c.part-read.ensures.finds
-        c.is_settled.ensures.settled
-        (λ live. (
-          c.part-read.ensures.reads.follows.0.follows.lived live.0,
-          c.part-read.ensures.reads.follows.1 live.1,
-        )),
-  ),
+  read_ending c.part-read.result,
+  read_moves (in_use (store_meaning {D = g.row.D.Denot} {g = g.D.Disk})) c.args.rest.now.digest c.args.rest.now.account
+      c.args.store.now c.part-read.new.ledgers c.part-read.result c.part-read.ensures.reads c.part-read.ensures.finds
+      c.is_settled.ensures.settled
+      (λ live. (
+        c.part-read.ensures.reads.follows.0.follows.lived live.0,
+        c.part-read.ensures.reads.follows.1 live.1,
+      )),
 )

@@ -63,7 +63,8 @@ returns-in-loop-clause-served g c =
     (c.write_rest.ensures.serves round.new.moments) in
     serves_so (rules g.L.Ledgers.means g.C.Moments.gives g.H.Steward.renews g.H.Steward.waits g.P.Peers.does)
     c.each_is_served.ensures c.serving_is_a_course.ensures.course
-    c.serving_is_a_course.ensures.alone (Whole c.args.ledgers.now) c.args.moments.now
+    c.serving_is_a_course.ensures.alone c.only_what_is_asked_is_booked.ensures
+    c.moments_rise.ensures (Whole c.args.ledgers.now) c.args.moments.now
     c.args.peers.now
     c.is_settled.ensures all.last all.deeds all.all new all.keeps c.args.most (Ok c.if-left-eq0.served)
     (λ is. elim c.if-left-eq0.branch [
@@ -83,7 +84,8 @@ returns-clause-served g c =
     let before = c.loop.invariant in
     serves_so (rules g.L.Ledgers.means g.C.Moments.gives g.H.Steward.renews g.H.Steward.waits g.P.Peers.does)
     c.each_is_served.ensures c.serving_is_a_course.ensures.course
-    c.serving_is_a_course.ensures.alone (Whole c.args.ledgers.now) c.args.moments.now
+    c.serving_is_a_course.ensures.alone c.only_what_is_asked_is_booked.ensures
+    c.moments_rise.ensures (Whole c.args.ledgers.now) c.args.moments.now
     c.args.peers.now
     c.is_settled.ensures before.last before.deeds before.served
     (held_by c.loop.ledgers c.loop.moments c.loop.peers c.loop.seats) before.keeps c.args.most

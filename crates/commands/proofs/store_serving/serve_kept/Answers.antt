@@ -6,7 +6,7 @@ use Rattle.store.specs.StoreLaws.{store_meaning}
 use Rattle.polling.specs.Courses.{IsSince}
 use Rattle.polling.specs.Laws.{empty_hall}
 use Rattle.commands.specs.Kept.{kept_meaning, renewal_seen}
-use Rattle.commands.proofs.RenewLemmas.{live_used}
+use Rattle.commands.proofs.RenewLemmas.{found_live_used}
 use Rattle.commands.proofs.store_serving.serve_kept.Goals as goal
 
 pub returns-clause-served : goal.returns-clause-served
@@ -25,7 +25,7 @@ returns-clause-served g c =
             (empty_hall (Whole c.args.kept.now) c.args.moments.now c.args.peers.now) served.deeds
             served.last served.served))
             served.ledgers_left (served.course (renewal_seen g.H.Home.opens)
-            (live_used c.args.kept.now c.may_be_called.ensures live)) in
+            (found_live_used c.args.kept.now c.may_be_called.ensures live)) in
             record { here = led.here; found = led.found };
       };
       kept = refl;

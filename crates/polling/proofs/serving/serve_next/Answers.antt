@@ -4,14 +4,16 @@ use Rattle.polling.specs.Standing.{turns_of}
 use Rattle.polling.specs.Seating.{held_by}
 use Rattle.polling.specs.declared.peers.Told.{Told}
 use Rattle.polling.specs.declared.peers.Told.TheVariants.{Nothing}
-use Rattle.polling.proofs.AllLemmas.{again_all, beside, owed_for, serves_all, tells_owed, then_owed}
+use Rattle.polling.proofs.AllLemmas.{beside, owed_for, serves_all, tells_owed, then_owed}
+use Rattle.polling.proofs.AttendLemmas.{attended_all}
 use Rattle.polling.proofs.ToldLemmas.{told_owed, told_then}
 use Rattle.polling.proofs.serving.serve_next.Goals as goal
 
 pub returns-then-is_over-clause-does : goal.returns-then-is_over-clause-does
 returns-then-is_over-clause-does g c = record {
-  before = held_by c.attend.new.ledgers c.args.moments.now c.args.peers.now c.args.seats.now;
-  served = serves_all (again_all c.attend.ensures.renewed);
+  before = held_by c.attend.new.ledgers c.attend.new.moments c.args.peers.now c.args.seats.now;
+  served = serves_all (attended_all g.L.Ledgers.means g.C.Moments.gives g.H.Steward.renews g.H.Steward.waits
+      g.P.Peers.does c.attend.ensures);
   said =
       subst
       (λ (told : Told).
@@ -20,7 +22,7 @@ returns-then-is_over-clause-does g c = record {
   same =
       refl {
       a =
-      held_by c.attend.new.ledgers c.args.moments.now c.told-told.new.self
+      held_by c.attend.new.ledgers c.attend.new.moments c.told-told.new.self
       c.args.seats.now
       };
 }
@@ -35,7 +37,8 @@ returns-then-is_over-clause-turns g c = record {
       (c.if-is_over.ensures.over refl).0 c.told-told.ensures in
       then_owed
       (beside (turns_of c.args.gathered.now.numbers.items)
-      (owed_for (again_all c.attend.ensures.renewed) (λ never. absurd never)))
+      (owed_for (attended_all g.L.Ledgers.means g.C.Moments.gives g.H.Steward.renews g.H.Steward.waits
+      g.P.Peers.does c.attend.ensures) (λ never. absurd never)))
       (tells_owed Nothing said) refl;
   few =
       omega arith;
@@ -46,10 +49,11 @@ returns-then-is_over-clause-more g c served = absurd (served refl)
 
 pub returns-clause-does : goal.returns-clause-does
 returns-clause-does g c = record {
-  before = held_by c.attend.new.ledgers c.args.moments.now c.args.peers.now c.args.seats.now;
+  before = held_by c.attend.new.ledgers c.attend.new.moments c.args.peers.now c.args.seats.now;
   told = c.told-told.result;
   peers = c.told-told.new.self;
-  first = serves_all (again_all c.attend.ensures.renewed);
+  first = serves_all (attended_all g.L.Ledgers.means g.C.Moments.gives g.H.Steward.renews g.H.Steward.waits
+      g.P.Peers.does c.attend.ensures);
   said = c.told-told.ensures;
   served =
       told_then c.told-told.result c.serve_told-replies.ensures.serves
@@ -65,7 +69,8 @@ returns-clause-turns g c =
       serves =
           then_owed
           (beside (turns_of c.args.gathered.now.numbers.items)
-          (owed_for (again_all c.attend.ensures.renewed) (λ never. absurd never)))
+          (owed_for (attended_all g.L.Ledgers.means g.C.Moments.gives g.H.Steward.renews g.H.Steward.waits
+          g.P.Peers.does c.attend.ensures) (λ never. absurd never)))
           (then_owed
           (owed_for (told_owed c.told-told.result c.told-told.ensures c.serve_told-replies.ensures.serves)
           (λ never. absurd never))

@@ -8,6 +8,7 @@ use chain::InUse;
 use parts::{Part, Rest};
 use plain::Book;
 use polling::{Seats, Steward, serve_ready, write_rest};
+use service::Moments;
 use std::alloc::Global;
 use std::cell::Cell;
 use std::test::Fail;
@@ -17,11 +18,11 @@ use std::test::Fail;
 struct Blind;
 
 impl Steward<InUse<Book>> for Blind {
-    ghost renews = { λ old new. ⊤ };
+    ghost renews = { λ given old new. ⊤ };
 
     fn is_settled(_ledgers: &InUse<Book>) {}
 
-    fn attend(&mut self, _ledgers: &mut InUse<Book>) {}
+    fn attend<C: Moments>(&mut self, _ledgers: &mut InUse<Book>, _moments: &mut C) {}
 
     fn reads(_alloc: Global, _ledgers: &mut InUse<Book>, _rest: &Rest) -> Option<Part> {
         None
@@ -36,14 +37,14 @@ struct PutsOff {
 }
 
 impl Steward<InUse<Book>> for PutsOff {
-    ghost renews = { λ old new. ⊤ };
+    ghost renews = { λ given old new. ⊤ };
 
     // Nothing is known of these.
     ghost waits = { λ message. ⊤ };
 
     fn is_settled(_ledgers: &InUse<Book>) {}
 
-    fn attend(&mut self, _ledgers: &mut InUse<Book>) {}
+    fn attend<C: Moments>(&mut self, _ledgers: &mut InUse<Book>, _moments: &mut C) {}
 
     fn reads(alloc: Global, ledgers: &mut InUse<Book>, rest: &Rest) -> Option<Part> {
         rest.part(alloc, ledgers, b"").ok()
