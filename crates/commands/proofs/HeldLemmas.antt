@@ -29,13 +29,13 @@ use Rattle.store.specs.Stores.{IsLive, IsLiveAt, OfDatabase, OfDatabaseAt, OfDat
 use Rattle.store.specs.declared.place.Place.{Place}
 use Rattle.store.specs.declared.place.Place.TheVariants as at
 use Rattle.store.specs.declared.store.Store.{Store}
-use Rattle.commands.specs.GivenKeys.{AreLinesTold, IsGivenKey, IsKeyTold, key_text}
+use Rattle.admin_client.specs.GivenKeys.{AreLinesTold, IsGivenKey, IsKeyTold, key_text}
 use Rattle.commands.specs.Holding.{IsDamagedAt}
 use Rattle.commands.specs.Listing.{row_of}
 use Rattle.commands.specs.OverFiles.{AreListedTold}
 use Rattle.commands.specs.Program.{IsNoKey}
-use Rattle.commands.specs.declared.given_key.GivenKey.{GivenKey}
-use Rattle.commands.specs.declared.given_key.GivenKey.TheVariants.{Word, Input, Drawn}
+use Rattle.admin_client.specs.declared.given_key.GivenKey.{GivenKey}
+use Rattle.admin_client.specs.declared.given_key.GivenKey.TheVariants.{Word, Input, Drawn}
 
 module _ {D : Type 0} (g : disk.Ghosts D) (image : Image) where
   first_damage :

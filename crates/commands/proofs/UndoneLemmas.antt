@@ -18,19 +18,21 @@ use Rattle.command_line.specs.declared.commands.StatementWords.{StatementWords}
 use Rattle.command_texts.specs.Words.{IsDigestOfKey}
 use Rattle.command_texts.specs.declared.fault.Fault.{Fault}
 use Rattle.command_texts.specs.declared.fault.Fault.TheVariants.{BadKey, NoTenant, Output}
-use Rattle.commands.specs.Asking.{IsAccountId, IsAskedInWords, IsVersion, is_whole}
-use Rattle.commands.specs.Extracts.{IsAskedTold, ToldBy}
-use Rattle.commands.specs.GivenKeys.{IsGivenKey, OfDigest, key_text}
+use Rattle.admin_client.specs.Asking.{IsAccountId, IsAskedInWords, is_whole}
+use Rattle.admin_client.specs.Extracts.{IsAskedTold, ToldBy}
+use Rattle.admin_client.specs.GivenKeys.{IsGivenKey, OfDigest, key_text}
 use Rattle.commands.specs.Holding.{IsFrom, IsNotBrought}
 use Rattle.commands.specs.Openings.{RefusesImage, RefusesOlder}
+use Rattle.admin_client.specs.Served.{IsUnserved}
+use Rattle.commands.specs.Migrating.{IsVersion}
 use Rattle.commands.specs.Pieces.{machine_named}
 use Rattle.commands.specs.Program.{ChangesTenant, Migrates, WritesStatement}
 use Rattle.commands.specs.Undone.{IsNotMade, IsNotMigrated, IsNotWritten}
-use Rattle.commands.specs.Undone.{IsUndone, IsUndoneAsked, IsUndoneWith, IsUnserved}
-use Rattle.commands.specs.declared.asked.Asked.{Asked}
+use Rattle.commands.specs.Undone.{IsUndone, IsUndoneAsked, IsUndoneWith}
+use Rattle.admin_client.specs.declared.asked.Asked.{Asked}
 use Rattle.commands.specs.declared.changing.TenantChange.{TenantChange}
 use Rattle.commands.specs.declared.ended.Ended.{Ended}
-use Rattle.commands.specs.declared.given_key.GivenKey.{GivenKey}
+use Rattle.admin_client.specs.declared.given_key.GivenKey.{GivenKey}
 use Rattle.commands.proofs.HeldLemmas.{is_key, of_then, so_at}
 use Rattle.commands.proofs.OpeningLemmas.{err_so}
 

@@ -24,7 +24,7 @@ use Rattle.records.specs.declared.query.Span.{Span}
 use Rattle.records.specs.declared.transfer.Transfer.{Transfer}
 use Rattle.commands.specs.Desk.{span_of}
 use Rattle.commands.specs.PieceByPiece.{IsPieceOfLater, PiecesMakeTheWhole}
-use Rattle.commands.specs.Served.{ComeBehind, entries_of, last_time, piece_behind, up_to}
+use Rattle.admin_client.specs.Served.{ComeBehind, entries_of, last_time, piece_behind, up_to}
 use Rattle.parts.proofs.LaterEntries.{all_own, same_later}
 
 -- tests that agree on all elements

@@ -30,13 +30,13 @@ use Rattle.records.specs.declared.transfer.Transfer.{Transfer}
 use Rattle.statement.specs.Period.{closing, is_before, is_reached, is_within, no_balances, opening, sums_after, within}
 use Rattle.statement.specs.Text.{statement_text}
 use Rattle.statement.specs.declared.period.Period.{Period}
-use Rattle.commands.specs.Asking.{is_whole}
+use Rattle.admin_client.specs.Asking.{is_whole}
 use Rattle.commands.specs.Desk.{span_of}
-use Rattle.commands.specs.Extracts.{AreTransfersOf, IsTextAsked, ToldBy, rows_asked}
+use Rattle.admin_client.specs.Extracts.{AreTransfersOf, IsTextAsked, ToldBy, rows_asked}
 use Rattle.commands.specs.PieceByPiece.{PiecesMakeTheStatement}
-use Rattle.commands.specs.Served.{entries_of, is_newest, text_by, transfer_within, transfers_asked}
-use Rattle.commands.specs.Statements.{answer_in}
-use Rattle.commands.specs.declared.asked.Asked.{Asked}
+use Rattle.admin_client.specs.Served.{entries_of, is_newest, text_by, transfer_within, transfers_asked}
+use Rattle.admin_client.specs.Statements.{answer_in}
+use Rattle.admin_client.specs.declared.asked.Asked.{Asked}
 use Rattle.parts.proofs.LaterEntries.{all_own}
 use Rattle.commands.proofs.WholeLemmas.{make_the_whole}
 

@@ -8,10 +8,10 @@ use Rattle.polling.specs.Peers.{Doing}
 use Rattle.store.specs.Stores.{AnswersCalls, IsUsable}
 use Rattle.store.specs.declared.store.Store.{Store}
 use Rattle.commands.specs.Kept.{kept_of}
-use Rattle.commands.specs.Listening.{ReadsListening}
+use Rattle.listener.specs.Listening.{ReadsListening}
 use Rattle.commands.specs.Serving.{ServesKept}
 use Rattle.commands.specs.declared.kept.Kept.{Kept}
-use Rattle.commands.specs.declared.listening.Listening.{Listening}
+use Rattle.listener.specs.declared.listening.Listening.{Listening}
 use Rattle.commands.specs.declared.store_serving.EndedService.{EndedService}
 use Rattle.command_texts.specs.declared.fault.Fault.{Fault}
 

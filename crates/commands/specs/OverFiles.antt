@@ -16,11 +16,11 @@ use Rattle.control.specs.declared.answer.Answer.{Answer}
 use Rattle.control.specs.declared.counting.CountForm.{CountForm}
 use Rattle.control.specs.declared.counting.CountForm.TheVariants.{Metric, Plain}
 use Rattle.commands.specs.Changing.{IsChangedAs, IsOpenedFor}
-use Rattle.commands.specs.Extracts.{IsAskedTold}
+use Rattle.admin_client.specs.Extracts.{IsAskedTold}
 use Rattle.commands.specs.Holding.{Becomes, ComesOf, IsFrom}
 use Rattle.commands.specs.Listing.{row_of}
 use Rattle.commands.specs.Pieces.{machine_named}
-use Rattle.commands.specs.declared.asked.Asked.{Asked}
+use Rattle.admin_client.specs.declared.asked.Asked.{Asked}
 use Rattle.commands.specs.declared.changing.TenantChange.{TenantChange}
 
 -- a body lists these tenants

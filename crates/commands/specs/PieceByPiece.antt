@@ -9,10 +9,10 @@ use Rattle.engine.specs.Following.{ContinuesAfter}
 use Rattle.records.specs.Machine.{Machine}
 use Rattle.records.specs.Valid.{IsValid}
 use Rattle.commands.specs.Desk.{span_of}
-use Rattle.commands.specs.Extracts.{IsAskedTold}
+use Rattle.admin_client.specs.Extracts.{IsAskedTold}
 use Rattle.parts.specs.Pieces.{IsPiece}
-use Rattle.commands.specs.Served.{ComeBehind, entries_of, first_asked, served_text, up_to}
-use Rattle.commands.specs.declared.asked.Asked.{Asked}
+use Rattle.admin_client.specs.Served.{ComeBehind, entries_of, first_asked, served_text, up_to}
+use Rattle.admin_client.specs.declared.asked.Asked.{Asked}
 
 -- a piece is what a tenant's machine has of it, as the service reads it
 abbrev pub IsPieceRead : Machine → PieceAsked → Entries → Type 0

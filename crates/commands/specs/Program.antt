@@ -23,26 +23,27 @@ use Rattle.command_texts.specs.Faults.{status_of}
 use Rattle.command_texts.specs.Lines.{IsWritten, damage_line}
 use Rattle.command_texts.specs.Lines.{copied_line, fault_line, new_ledger_line, schema_line, stopped_line}
 use Rattle.command_line.specs.declared.commands.StatementWords.{StatementWords}
-use Rattle.commands.specs.Asking.{IsAccountId, IsAskedInWords, IsVersion, MeansPeriod, read_form}
+use Rattle.admin_client.specs.Asking.{IsAccountId, IsAskedInWords, MeansPeriod, read_form}
 use Rattle.control.specs.Answers.{TellsCopied, TellsStopped}
 use Rattle.commands.specs.Changing.{IsMadeFor, TellsChange, change_line}
 use Rattle.commands.specs.Copying.{IsPathOf}
 use Rattle.commands.specs.Holding.{HasDamaged, HasMigrated, HasOpened, HasTold, HasToldOr}
 use Rattle.commands.specs.Holding.{IsBroughtTo, IsDamagedAt, IsFrom}
+use Rattle.commands.specs.Migrating.{IsVersion}
 use Rattle.commands.specs.Openings.{RefusesImage}
 use Rattle.commands.specs.OverFiles.{AreCountsTold, AreTenantsTold, count_form}
 use Rattle.commands.specs.OverFiles.{HasListed, HasMade, HasWrittenStatement, IsWrittenFrom}
 use Rattle.commands.specs.Undone.{IsNotCopied, IsNotMade, IsNotMigrated}
 use Rattle.commands.specs.Undone.{IsUnanswered, IsUndone, IsUndoneAsked, IsUndoneWith}
-use Rattle.commands.specs.Served.{IsStatementServed}
-use Rattle.commands.specs.declared.asked.Asked.{Asked}
+use Rattle.admin_client.specs.Served.{IsStatementServed}
+use Rattle.admin_client.specs.declared.asked.Asked.{Asked}
 use Rattle.commands.specs.declared.changing.TenantChange.{TenantChange}
 use Rattle.commands.specs.declared.changing.TenantChange.TheVariants.{Adding, Keying}
 use Rattle.statement.specs.declared.period.Period.{Period}
-use Rattle.commands.specs.GivenKeys.{IsGivenKey, AreLinesTold, OfDigest, key_text}
+use Rattle.admin_client.specs.GivenKeys.{IsGivenKey, AreLinesTold, OfDigest, key_text}
 use Rattle.commands.specs.declared.ended.Ended.{Ended}
 use Rattle.commands.specs.declared.ended.Held.TheVariants.{Nothing}
-use Rattle.commands.specs.declared.given_key.GivenKey.{GivenKey}
+use Rattle.admin_client.specs.declared.given_key.GivenKey.{GivenKey}
 use Rattle.command_texts.specs.declared.fault.Fault.{Fault}
 use Rattle.command_texts.specs.declared.fault.Fault.TheVariants.{BadName, BadKey, BadAccount}
 use Rattle.command_texts.specs.declared.fault.Fault.TheVariants.{BadVersion, BadTime, BadFormat}

@@ -12,16 +12,17 @@ use Rattle.command_texts.specs.declared.fault.Fault.TheVariants.{BadVersion, Exi
 use Rattle.command_texts.specs.declared.fault.Fault.TheVariants.{Output}
 use Rattle.control.specs.Told.{IsCallFault}
 use Rattle.store.specs.declared.store.Store.{Store}
-use Rattle.commands.specs.Asking.{IsAccountId, IsAskedInWords, IsUnasked, IsVersion}
+use Rattle.admin_client.specs.Asking.{IsAccountId, IsAskedInWords, IsUnasked}
 use Rattle.commands.specs.Changing.{IsChangedAs, IsOpenedFor}
-use Rattle.commands.specs.Extracts.{IsAskedTold}
-use Rattle.commands.specs.GivenKeys.{IsGivenKey, OfDigest, key_text}
+use Rattle.admin_client.specs.Extracts.{IsAskedTold}
+use Rattle.admin_client.specs.GivenKeys.{IsGivenKey, OfDigest, key_text}
 use Rattle.commands.specs.Holding.{ComesOf, IsFrom, IsNotBrought}
 use Rattle.commands.specs.Openings.{RefusesImage, RefusesOlder}
+use Rattle.commands.specs.Migrating.{IsVersion}
 use Rattle.commands.specs.Pieces.{machine_named}
-use Rattle.commands.specs.declared.asked.Asked.{Asked}
+use Rattle.admin_client.specs.declared.asked.Asked.{Asked}
 use Rattle.commands.specs.declared.changing.TenantChange.{TenantChange}
-use Rattle.commands.specs.declared.given_key.GivenKey.{GivenKey}
+use Rattle.admin_client.specs.declared.given_key.GivenKey.{GivenKey}
 
 -- something has a name that the copy is to have
 abbrev pub IsNotCopied : Fault → Type 0
@@ -30,11 +31,6 @@ IsNotCopied fault = fault ≡ Exists
 -- the key that a word means is none
 abbrev pub IsBadKey : Option (List ℕ) → Type 0
 IsBadKey word = (given : GivenKey) × IsGivenKey word given × (key_of (key_text given) ≡ None)
-
--- the service that has the file was asked for more and has not answered, or standard output could
--- not be written
-abbrev pub IsUnserved : Fault → Type 0
-IsUnserved fault = IsCallFault fault ⊎ (fault ≡ Output)
 
 -- the service that has the file was asked and has not answered, or there is none; or what it told
 -- could not be written

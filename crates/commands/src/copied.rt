@@ -6,8 +6,8 @@ ghost use Rattle.commands.specs.Copying.{IsPathOf, copy_fault};
 ghost use Rattle.commands.specs.Holding.{IsFrom};
 ghost use Rattle.commands.specs.Undone.{IsNotCopied, IsUndone};
 
-use crate::calling::real_path;
 use crate::opening::open_file;
+use admin_client::real_path;
 use chain::InUse;
 use command_texts::Fault;
 use control::is_from_root;

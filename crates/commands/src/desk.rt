@@ -2,18 +2,17 @@
 ghost use Rattle.std.specs.Prelude.{◌≡◌, IfOk};
 ghost use Rattle.commands.specs.Desk.{IsBodyOf, order_of};
 
-use crate::bell::Bell;
-use crate::calling::desk_path;
 use crate::copied::{Progress, begin_copy, copy_on};
-use crate::hosting::Site;
 use crate::listing::listed;
 use crate::orders::{Done, Order, Orders};
 use crate::status::status_body;
+use admin_client::desk_path;
 use command_texts::Fault;
 use control::{
     Desk, Order as Asked, PieceAsked, added_body, changed_body, copied_body, entries_body,
 };
 use copies::Copying;
+use listener::{Bell, Site};
 use metered_disk::Meter;
 use records::{Order as InTime, Span};
 use sockets::Watcher;

@@ -2,24 +2,20 @@
 ghost use Rattle.std.specs.Prelude.{◌≡◌, ◌⊎◌, IfErr, IfOk, IsTrue, Ok, Err};
 ghost use Rattle.command_line.specs.Values.{text_in};
 ghost use Rattle.commands.specs.Leaving.{HasServedFile, IsServedFirst};
-ghost use Rattle.commands.specs.Listening.{IsNoAddress};
+ghost use Rattle.listener.specs.Listening.{IsNoAddress};
 ghost use Rattle.commands.specs.Openings.{RefusesSome};
 
-use crate::bell::Bell;
 use crate::counting::CountingAudit;
 use crate::desk::HostDesk;
-use crate::given_limits::limits_of;
-use crate::hosting::Site;
-use crate::listening::{Listening, asked_address};
 use crate::opening::{ServedFile, open_served};
 use crate::renewing::Home;
 use crate::serving::Served;
 use crate::store_serving::{EndedService, serve_to_end};
 use crate::stores::may_be_called;
-use crate::{RisingClock, SystemMoments};
 use chain::InUse;
 use command_line::LimitWords;
 use command_texts::{Fault, tell_fault};
+use listener::{Bell, Listening, RisingClock, Site, SystemMoments, asked_address, limits_of};
 use metered_disk::Meter;
 use records::Streamed;
 use sqlite::Files;

@@ -2,26 +2,16 @@
 //! machine.
 #![tactic(auto)]
 
-mod asked;
 mod behind;
-mod bell;
-mod calling;
 mod changing;
 mod copied;
 mod counting;
 mod desk;
 mod ended;
-mod events;
-mod extracts;
 mod file_serving;
-mod given_key;
-mod given_limits;
-mod hosting;
 mod kept;
 mod laws;
-mod listening;
 mod listing;
-mod moments;
 mod opening;
 mod orders;
 mod over_files;
@@ -29,20 +19,15 @@ mod over_tenants;
 mod pieces;
 mod reasons;
 mod renewing;
-mod served_statements;
 mod serving;
 mod settling;
-mod statements;
 mod status;
 mod store_serving;
 mod stores;
-mod tally;
 mod whole_program;
 
 pub use file_serving::{HostService, serve_file};
-pub use hosting::Site;
 pub use laws::{pieces_are_read_back, pieces_make_the_whole};
-pub use moments::{RisingClock, SystemMoments};
 pub use orders::{Done, Order, Orders};
 pub use reasons::{Place, tell_file_fault};
 pub use renewing::Home;

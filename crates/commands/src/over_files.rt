@@ -7,19 +7,16 @@ ghost use Rattle.commands.specs.Holding.{HasOpened, HasToldOr, IsBroughtTo, IsFr
 ghost use Rattle.commands.specs.Migrating.{migrate_fault};
 ghost use Rattle.commands.specs.Openings.{IsOpeningFault, RefusesImage, RefusesOlder};
 ghost use Rattle.commands.specs.OverFiles.{HasWrittenStatement, IsWrittenFrom, count_form};
-ghost use Rattle.commands.specs.Served.{IsStatementServed};
+ghost use Rattle.admin_client.specs.Served.{IsStatementServed};
 ghost use Rattle.commands.specs.Program.{AsksStatus, Checks, CopiesFile, Migrates, Stops};
 ghost use Rattle.commands.specs.Program.{WritesStatement};
 ghost use Rattle.commands.specs.Undone.{IsNotCopied, IsNotWritten, IsUndone};
 
-use crate::asked::Asked;
-use crate::calling::{ask, ask_served};
 use crate::copied::{absolute, copy_file};
 use crate::ended::{Ended, Held};
 use crate::opening::{Audited, examine, open_file, open_to_migrate};
-use crate::served_statements::{ask_first, write_served};
-use crate::statements::write_asked;
 use crate::stores::may_be_called;
+use admin_client::{Asked, ask, ask_first, ask_served, write_asked, write_served};
 use chain::InUse;
 use command_line::StatementWords;
 use command_texts::{

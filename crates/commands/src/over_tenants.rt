@@ -9,12 +9,11 @@ ghost use Rattle.commands.specs.OverFiles.{AreTenantsTold, HasListed, HasMade};
 ghost use Rattle.commands.specs.Program.{ChangesTenant, ListsTenants};
 ghost use Rattle.commands.specs.Undone.{IsNotMade, IsUndone};
 
-use crate::calling::ask;
 use crate::changing::TenantChange;
 use crate::ended::{Ended, Held};
-use crate::given_key::GivenKey;
 use crate::listing::listed;
 use crate::opening::open_file;
+use admin_client::{GivenKey, ask};
 use chain::InUse;
 use command_texts::{Fault, key_digest, name};
 use control::{Call, put_listed};

@@ -9,10 +9,10 @@ ghost use Rattle.commands.specs.Behind.{IsEmpty, AsksForOneBehind, NotesPiece, N
 ghost use Rattle.commands.specs.Settling.{GivesSettled, HasSettled, SettlesPiece, SettlesBy, batch_ending, settling};
 
 use crate::behind::Behind;
-use crate::moments::moment_of;
 use crate::stores::{is_settled, may_be_called};
 use chain::{BatchFault, InUse, Ledgers, Tables, Work, run_transfers};
 use ledger_http::asked;
+use listener::moment_of;
 use records::Unavailable;
 use sqlite_disk::Disk;
 use std::alloc::Global;

@@ -2,9 +2,9 @@
 ghost use Rattle.std.specs.Prelude.{◌≡◌, ◌/◌, ◌-◌, ◌^◌, min};
 ghost use Rattle.std.specs.Duration.{as_nanos};
 
-use crate::bell::Bell;
 use command_texts::Fault;
 use control::{Count, counts_body};
+use listener::Bell;
 use metered_disk::Reading;
 use openings::versions::CURRENT_VERSION;
 use std::fs;

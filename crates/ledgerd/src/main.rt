@@ -6,7 +6,8 @@ mod run;
 
 use command_line::{Command, command};
 use command_texts::{Fault, tell_fault};
-use commands::{Place, Site, program, serve_file, tell_file_fault};
+use commands::{Place, program, serve_file, tell_file_fault};
+use listener::Site;
 use records::Streamed;
 use sqlite_disk::Unknown;
 use std::env;

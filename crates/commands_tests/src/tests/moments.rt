@@ -1,5 +1,5 @@
 //! The moments that a clock gives.
-use commands::{RisingClock, SystemMoments};
+use listener::{RisingClock, SystemMoments};
 use service::Moments;
 use std::cell::Cell;
 use std::io::{self, ErrorKind};

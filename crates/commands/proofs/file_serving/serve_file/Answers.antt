@@ -1,7 +1,7 @@
 use Rattle.std.proofs.Common.{◌∙◌, Ok, ap, subst, sym}
 use Rattle.std.specs.Net.Socket.{socket_ip, socket_port}
 use Rattle.command_line.specs.Values.{text_in}
-use Rattle.commands.specs.Listening.{ReadsListening}
+use Rattle.listener.specs.Listening.{ReadsListening}
 use Rattle.commands.proofs.file_serving.serve_file.Goals as goal
 
 pub returns-in-Ok-clause-served : goal.returns-in-Ok-clause-served

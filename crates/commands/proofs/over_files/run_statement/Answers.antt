@@ -2,7 +2,7 @@ use Rattle.std.proofs.Common.{List, ℕ, arith, refl, rules, subst}
 use Rattle.sqlite_wal.specs.Files.{image_at}
 use Rattle.commands.specs.Holding.{HasOpened, HasToldOr}
 use Rattle.commands.specs.OverFiles.{HasWrittenStatement, IsWrittenFrom}
-use Rattle.commands.specs.Served.{IsStatementServed}
+use Rattle.admin_client.specs.Served.{IsStatementServed}
 use Rattle.commands.proofs.UndoneLemmas.{not_written}
 use Rattle.commands.proofs.over_files.run_statement.Goals as goal
 

@@ -2,7 +2,7 @@ use Rattle.std.proofs.Common.{List, inl, inr, subst}
 use Rattle.std.specs.Io.KnownBytes.{Appends}
 use Rattle.chain.specs.declared.account_entry.AccountEntry.{AccountEntry}
 use Rattle.control.specs.declared.piece_asked.PieceAsked.{PieceAsked}
-use Rattle.commands.specs.Served.{OfAllPieces, served_text}
+use Rattle.admin_client.specs.Served.{OfAllPieces, served_text}
 use Rattle.sqlite_wal.specs.Files.{image_at}
 use Rattle.commands.proofs.UndoneLemmas.{undone_in}
 use Rattle.commands.proofs.over_files.write.Goals as goal

@@ -1,6 +1,6 @@
 use Rattle.std.proofs.Common.{Option, Ok, Err}
 use Rattle.records.specs.Machine.{Machine}
-use Rattle.commands.specs.Extracts.{IsAskedTold}
+use Rattle.admin_client.specs.Extracts.{IsAskedTold}
 use Rattle.commands.proofs.PieceLemmas.{comes_by_name}
 use Rattle.sqlite_wal.specs.Files.{image_at}
 use Rattle.commands.proofs.UndoneLemmas.{declined_in, nobody_there, told_as_none}

@@ -1,0 +1,4 @@
+mod AskLemmas
+mod ExtractLemmas
+mod ServedLemmas
+mod StatementLemmas

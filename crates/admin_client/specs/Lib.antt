@@ -1,0 +1,5 @@
+pub mod Asking
+pub mod Extracts
+pub mod GivenKeys
+pub mod Served
+pub mod Statements

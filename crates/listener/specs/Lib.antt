@@ -1,0 +1,3 @@
+pub mod GivenLimits
+pub mod Listening
+pub mod Tally
