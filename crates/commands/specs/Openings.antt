@@ -31,6 +31,7 @@ IsOpeningFault told.NotALedger = Unit {0}
 IsOpeningFault told.OldSchema = Unit {0}
 IsOpeningFault told.NewerSchema = Unit {0}
 IsOpeningFault told.Damaged = Unit {0}
+IsOpeningFault told.Behind = Unit {0}
 IsOpeningFault told.Unavailable = Unit {0}
 IsOpeningFault other = ⊥
 
@@ -57,6 +58,7 @@ module _ (Finds : OpenFault → Type 0) where
   IsFoundSo told.OldSchema = Finds opening.OldSchema
   IsFoundSo told.NewerSchema = Finds opening.NewerSchema
   IsFoundSo told.Damaged = (damage : Damage) × Finds (opening.Damaged damage)
+  IsFoundSo told.Behind = Unit {0}
   IsFoundSo told.Unavailable = Unit {0}
   IsFoundSo other = ⊥
 

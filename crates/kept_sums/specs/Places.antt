@@ -4,10 +4,12 @@ use Rattle.std.specs.Prelude.{◌≡◌, ℕ, ◌+◌, ◌≤◌, List, length, 
 -- a part is written at a place, within what there is or at its end
 abbrev pub WritesPart : ℕ → List ℕ → Option (List ℕ) → Option (List ℕ) → Type 0
 WritesPart at part old new =
-    (all : List ℕ) → old ≡ Some all → at ≤ length all
-    → new ≡ Some (take at all ++ part ++ drop (at + length part) all)
+    (now : List ℕ) → new ≡ Some now
+    → (all : List ℕ) × (old ≡ Some all)
+    × (at ≤ length all → now ≡ take at all ++ (part ++ drop (at + length part) all))
 
 -- what stands before a place is as it was
 abbrev pub KeepsBefore : ℕ → Option (List ℕ) → Option (List ℕ) → Type 0
 KeepsBefore at old new =
-    (all : List ℕ) → old ≡ Some all → (now : List ℕ) × (new ≡ Some now) × (take at now ≡ take at all)
+    (now : List ℕ) → new ≡ Some now
+    → (all : List ℕ) × (old ≡ Some all) × (take at now ≡ take at all)

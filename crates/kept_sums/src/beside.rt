@@ -1,7 +1,7 @@
 //! FILE-sums beside a file of this machine.
 
 use crate::KeptSums;
-use file_sums::{Record, Sums};
+use file_sums::{Noted, Record, Sums};
 use os::RangeLock;
 use std::alloc::AllocError;
 use std::fs::{self, File, OpenOptions, Permissions};
@@ -15,12 +15,14 @@ const OWNER_ALONE: u32 = 0o600;
 /// A FILE-sums longer than this is not read.
 const MOST_BYTES: u64 = 1 << 30;
 
-/// The file whose FILE-sums it is, by its path without links, and what its FILE-sums begins with.
+/// The size of pages that a head has, where no digests of pages follow.
+const NO_PAGES: u32 = 0;
+
+/// The file whose FILE-sums it is, by its path without links.
 #[derive(Clone, Copy)]
 pub struct Access<'a> {
     pub rt: &'a HostRuntime,
     pub path: &'a str,
-    pub page_size: u32,
 }
 
 impl Access<'_> {
@@ -44,8 +46,8 @@ impl Access<'_> {
     }
 }
 
-/// The FILE-sums beside a file, if there is one that can be read and has these pages. What a crash
-/// has cut off is gone from it.
+/// The FILE-sums beside a file, if there is one that can be read, to be appended to. What a crash
+/// has cut off is gone from it. `WouldBlock` where another process has it.
 pub fn open_beside(access: &Access<'_>) -> io::Result<Option<KeptSums<File>>> {
     let name = access.name()?;
     let Some(mut file) = open_own(access.rt, name.as_str())? else {
@@ -53,18 +55,40 @@ pub fn open_beside(access: &Access<'_>) -> io::Result<Option<KeptSums<File>>> {
     };
     settle(&file)?;
     access.sync_folder()?;
-    if file.metadata()?.len() > MOST_BYTES {
-        return Ok(None);
-    }
-    let mut bytes = Vec::new(access.rt.alloc());
-    file.read_to_end(&mut bytes)?;
-    match Sums::read(&bytes) {
-        Some((sums, len)) if sums.page_size() == access.page_size => {
+    match read_whole(access.rt, &mut file)? {
+        Some((sums, len)) => {
             file.set_len(len as u64)?;
             Ok(Some(KeptSums::over(file, sums, len as u64)))
         }
-        _ => Ok(None),
+        None => Ok(None),
     }
+}
+
+/// What the FILE-sums beside a file says, if there is one that can be read. Nothing is written or
+/// locked.
+pub fn read_beside(access: &Access<'_>) -> io::Result<Option<Noted>> {
+    let name = access.name()?;
+    match fs::symlink_metadata(access.rt, name.as_str()) {
+        Ok(found) if found.is_file() => {}
+        Ok(_) => return Ok(None),
+        Err(error) if error.kind() == ErrorKind::NotFound => return Ok(None),
+        Err(error) => return Err(error),
+    }
+    let mut file = above_streams(File::open(access.rt, name.as_str())?)?;
+    match read_whole(access.rt, &mut file)? {
+        Some((sums, _len)) => Ok(Some(sums.noted())),
+        None => Ok(None),
+    }
+}
+
+// What a file of FILE-sums is, and how many bytes of it.
+fn read_whole(rt: &HostRuntime, file: &mut File) -> io::Result<Option<(Sums, usize)>> {
+    if file.metadata()?.len() > MOST_BYTES {
+        return Ok(None);
+    }
+    let mut bytes = Vec::new(rt.alloc());
+    file.read_to_end(&mut bytes)?;
+    Ok(Sums::read(&bytes))
 }
 
 /// Makes the FILE-sums of a file anew, with these records, under a key that is drawn at random. The
@@ -78,7 +102,7 @@ pub fn make_beside(
     let alloc = access.rt.alloc();
     remove(access.rt, part.as_str())?;
     let file = make_own(access, part.as_str())?;
-    let (sums, head) = Sums::begin(alloc, access.page_size, key)?;
+    let (sums, head) = Sums::begin(alloc, NO_PAGES, key)?;
     let mut kept = KeptSums::begin(file, sums, &head)?;
     for entry in entries {
         kept.append(alloc, *entry)?;

@@ -28,15 +28,6 @@ impl<F: Place> KeptSums<F> {
         KeptSums { place, sums, len }
     }
 
-    /// A new FILE-sums in an empty file, with this head.
-    pub fn begin(mut place: F, sums: Sums, head: &[u8]) -> io::Result<KeptSums<F>>
-        ensures { IfOk result (λ begun. F.bytes place ≡ Some [] → Knows sums [] head.now
-            → Keeps (F.bytes begun.place) begun.sums begun.len []) }
-    {
-        place.write_part(0, head)?;
-        Ok(KeptSums::over(place, sums, head.len() as u64))
-    }
-
     /// Appends a record, and does not sync it. Where the call fails, what stood there stands, and
     /// the next record is written in the place of this one.
     pub fn append(&mut self, alloc: Global, entry: Record) -> io::Result<()>
@@ -79,5 +70,16 @@ impl<F: Place> KeptSums<F> {
         ensures { result ≡ self.now.len }
     {
         self.len
+    }
+}
+
+impl<F: Place + Drop> KeptSums<F> {
+    /// A new FILE-sums in an empty file, with this head.
+    pub fn begin(mut place: F, sums: Sums, head: &[u8]) -> io::Result<KeptSums<F>>
+        ensures { IfOk result (λ begun. F.bytes place ≡ Some [] → Knows sums [] head.now
+            → Keeps (F.bytes begun.place) begun.sums begun.len []) }
+    {
+        place.write_part(0, head)?;
+        Ok(KeptSums::over(place, sums, head.len() as u64))
     }
 }

@@ -7,6 +7,6 @@ mod place;
 #[cfg(test)]
 mod tests;
 
-pub use beside::{Access, make_beside, open_beside, remove_beside};
+pub use beside::{Access, make_beside, open_beside, read_beside, remove_beside};
 pub use kept::KeptSums;
 pub use place::Place;

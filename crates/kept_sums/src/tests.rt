@@ -1,4 +1,4 @@
-use crate::{Access, KeptSums, Place, make_beside, open_beside, remove_beside};
+use crate::{Access, KeptSums, Place, make_beside, open_beside, read_beside, remove_beside};
 use file_sums::{LogNoted, Noted, Record, Sums};
 use std::cell::Cell;
 use std::fs::{self, OpenOptions};
@@ -29,7 +29,6 @@ fn what_is_appended_is_found_again(rt: HostRuntime) -> Result<(), Fail> {
     let access = Access {
         rt: &rt,
         path: PATH,
-        page_size: 4096,
     };
     assert!(rt; open_beside(&access)?.is_none());
     let mut kept = make_beside(&access, 5, &[Record::Log(9), Record::Mark(7)])?;
@@ -37,7 +36,9 @@ fn what_is_appended_is_found_again(rt: HostRuntime) -> Result<(), Fail> {
     kept.append(rt.alloc(), Record::Mark(8))?;
     kept.sync()?;
     assert_eq!(rt; kept.noted(), noted(8));
-    assert!(rt; open_beside(&access).is_err());
+    // It is read, but taken up by nobody else.
+    assert_eq!(rt; read_beside(&access)?, Some(noted(8)));
+    assert!(rt; open_beside(&access).is_err_and(|error| error.kind() == ErrorKind::WouldBlock));
     drop(kept);
 
     let kept = open_beside(&access)?.ok_or("gone")?;
@@ -58,11 +59,7 @@ fn what_is_appended_is_found_again(rt: HostRuntime) -> Result<(), Fail> {
     assert_eq!(rt; kept.noted(), noted(9));
     drop(kept);
 
-    let other = Access {
-        page_size: 512,
-        ..access
-    };
-    assert!(rt; open_beside(&other)?.is_none());
+    assert_eq!(rt; read_beside(&access)?, Some(noted(9)));
     remove_beside(&access)?;
     assert!(rt; open_beside(&access)?.is_none());
     remove_beside(&access)?;

@@ -5,6 +5,7 @@ use crate::events::Events;
 use crate::moments::RisingClock;
 use metered_disk::Meter;
 use polling::Batch;
+use reply_marks::Marks;
 use sockets::{Counts, Operator};
 use std::time::Duration;
 
@@ -18,6 +19,8 @@ pub struct Site<'a> {
     pub bell: Bell,
     /// What the disk of its file has done.
     pub meter: Meter,
+    /// The marks of the replies that go out.
+    pub marks: Marks<'a>,
     /// The clock by which messages are given their moments.
     pub clock: RisingClock<'a, HostRuntime>,
 }
@@ -29,6 +32,7 @@ impl<'a> Site<'a> {
             rt,
             bell: Bell::new(),
             meter: Meter::new(),
+            marks: Marks::new(rt),
             clock: RisingClock::new(rt),
         }
     }
@@ -61,7 +65,9 @@ impl Operator for Site<'_> {
         self.bell.note(counts);
     }
 
+    // A clock is marked before the first byte of the reply that tells it goes out.
     fn replies(&self, reply: &[u8]) {
+        self.marks.note(reply);
         let mut tally = self.bell.tally();
         tally.replied(reply);
         self.bell.set_tally(tally);
