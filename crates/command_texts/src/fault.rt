@@ -53,7 +53,7 @@ pub enum Fault {
     NewerSchema,
     /// The audit refuses the file's rows.
     Damaged,
-    /// Commits that clients were told of are missing from the file.
+    /// Commits that were answered are missing from the file.
     Behind,
     /// Another process has the file.
     InUse,

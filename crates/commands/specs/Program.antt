@@ -243,8 +243,8 @@ abbrev pub TellsFault : Fault → Told → ℕ → Type 0
 TellsFault fault err status =
     (status ≡ status_of fault) × IsWritten err.before err.behind err.has_failed (fault_line fault)
 
--- so is one of a file; the system's reason may stand behind the line of a file that is unreadable,
--- and behind that of a ledger that lacks commits what can be done
+-- so is one of a file; more may stand behind the line: the system's reason, or what can be done about
+-- a ledger that lacks commits
 abbrev pub TellsFileFault : Fault → Told → ℕ → Type 0
 TellsFileFault fault err status =
     (status ≡ status_of fault)

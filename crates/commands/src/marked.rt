@@ -1,4 +1,4 @@
-//! Whether a ledger has all commits that clients were told of, by the mark in FILE-sums.
+//! Whether a ledger has all commits that were answered, by the mark in FILE-sums.
 ghost use Rattle.std.specs.Prelude.{◌≡◌, ◌<◌, ◌≤◌, ◌⊎◌, IfErr, MatchResult};
 ghost use Rattle.commands.specs.Openings.{IsUnopened};
 
@@ -7,8 +7,8 @@ use command_texts::Fault;
 use file_sums::{Noted, is_behind};
 use reply_marks::{Marks, forget_beside, noted_beside};
 
-/// What is open, unless commits are missing from it that clients were told of: its latest clock is
-/// below the mark in FILE-sums.
+/// What is open, unless answered commits are missing from it: its latest clock is below the mark in
+/// FILE-sums.
 pub(crate) fn unless_behind<T: Drop>(noted: &Noted, clock: u64, opened: T) -> Result<T, Fault>
     ensures { MatchResult result (λ same. (same ≡ opened) × (noted.now.mark ≤ clock))
         (λ fault. (fault ≡ Fault.Behind) × (clock < noted.now.mark)) }

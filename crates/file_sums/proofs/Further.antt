@@ -33,6 +33,6 @@ further bytes sums len found noted so_far stands notes =
 pub within : (bytes : List ℕ) (sums : Sums) (len : ℕ) → AreWholeTo bytes sums len → len ≤ length bytes
 within bytes sums len so_far = omega (arith, so_far.size, ap length so_far.split, length-append so_far.front so_far.rest)
 
--- what stands behind so many bytes
+-- what stands behind these bytes
 pub behind : (bytes : List ℕ) (len : ℕ) → take (length bytes - len) (drop len bytes) ≡ drop len bytes
 behind bytes len = take_all (length bytes - len) (drop len bytes) (omega (arith, length-drop len bytes))

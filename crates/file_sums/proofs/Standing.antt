@@ -46,7 +46,7 @@ parts_of before bytes found stands = record {
     regroup : (a b c d e : List ℕ) → (((a ++ b) ++ c) ++ d) ++ e ≡ a ++ (b ++ (c ++ (d ++ e)))
     regroup a b c d e = simp append_assoc
 
--- so many bytes are the record's before its seal
+-- the record's bytes before its seal
 body_front : (kind : ℕ) (content rest : List ℕ)
     → take (8 + length content) (body_of kind content ++ rest) ≡ body_of kind content
 body_front kind content rest =

@@ -24,7 +24,7 @@ pub record Knows (sums : Sums) (records : List Record) (bytes : List ℕ) : Type
   pub whole : AreWhole sums.page_size sums.key records bytes sums.seal
   pub noted : sums.noted ≡ noted_of records
 
--- so many of these bytes are whole, and this is known of them
+-- the first `len` of these bytes are whole, and this is known of them
 pub record AreWholeTo (bytes : List ℕ) (sums : Sums) (len : ℕ) : Type 0 where
   pub records : List Record
   pub front : List ℕ

@@ -1,5 +1,5 @@
-//! FILE-sums: what is kept beside a database file and its log, so that an opening notices when the
-//! two do not belong together, or when commits that were answered are missing.
+//! FILE-sums, which stands beside a database file and its log. By it an opening notices that the two
+//! do not belong together, or that commits which were answered are missing.
 //!
 //! It is a head and records behind one another, which are only ever appended. Each record ends with
 //! a seal that covers it and the seal before it. What a crash has cut off, or a stranger has

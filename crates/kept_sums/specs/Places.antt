@@ -1,4 +1,4 @@
--- What is written to a file, where its bytes can be told.
+-- What is written to a file whose bytes are known.
 use Rattle.std.specs.Prelude.{◌≡◌, ℕ, ◌+◌, ◌≤◌, List, length, take, drop, ◌++◌, Option, Some}
 
 -- a part is written at a place, within what there is or at its end

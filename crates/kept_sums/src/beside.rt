@@ -9,7 +9,7 @@ use std::io::{self, ErrorKind, Read};
 use std::os::fd::AsRawFd;
 use std::os::unix::fs::{MetadataExt, OpenOptionsExt, PermissionsExt, fchown};
 
-/// Who may read and write a file that is made, until it gets the access of the file beside it.
+/// The mode of a file that is made, until it gets the access of the file beside it.
 const OWNER_ALONE: u32 = 0o600;
 
 /// A FILE-sums longer than this is not read.

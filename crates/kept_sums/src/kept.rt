@@ -19,7 +19,7 @@ pub struct KeptSums<F: Place> {
 }
 
 impl<F: Place> KeptSums<F> {
-    /// The FILE-sums that stands in the first bytes of a file, of which there are so many.
+    /// The FILE-sums that stands in the first `len` bytes of a file.
     pub fn over(place: F, sums: Sums, len: u64) -> KeptSums<F>
         ensures place { result.place ≡ place }
         ensures sums { result.sums ≡ sums }

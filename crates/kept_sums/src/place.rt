@@ -9,7 +9,7 @@ use std::os::unix::fs::FileExt;
 
 /// A file that is written at places.
 pub trait Place {
-    /// Its bytes, where they can be told: those of a file of this machine cannot.
+    /// Its bytes, where they are known. Those of a file of this machine are not.
     ghost bytes: { Self → Option (List ℕ) };
 
     /// Writes bytes at a place. A call that fails may have written any of them.

@@ -79,7 +79,7 @@ fn what_is_appended_is_found_again(rt: HostRuntime) -> Result<(), Fail> {
     Ok(())
 }
 
-// A disk with so many bytes of room, and how long its one file is.
+// A disk with this many bytes of room, and how long its one file is.
 #[derive(Drop)]
 struct Disk {
     room: Cell<u64>,

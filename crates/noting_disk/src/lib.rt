@@ -1,7 +1,7 @@
 //! A disk that notes which log is in use.
 //!
 //! A database that begins a log anew writes all of its header but the first byte, syncs, writes that
-//! byte, and syncs. The disk follows these writes, and hands the new log's salt on behind the last
+//! byte, and syncs. The disk follows these writes, and hands the new log's salt on after the last
 //! sync: then a crash leaves no other log.
 #![tactic(auto)]
 

@@ -1,4 +1,4 @@
-//! Who is told which log is in use.
+//! What notes which log is in use.
 
 ghost use Rattle.std.specs.Prelude.{List, ℕ};
 ghost use Rattle.noting_disk.specs.Heads.{IsLogOf};

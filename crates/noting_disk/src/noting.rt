@@ -7,7 +7,7 @@ use crate::{HeadSeen, LogNotes};
 use sqlite_disk::{Crash, Disk, Tally};
 use std::io;
 
-/// A disk that hands each call on. Of a log it notes the salt of each new header, behind the sync
+/// A disk that hands each call on. It notes the salt of a log's new header once a sync has returned
 /// after which no crash leaves another.
 #[derive(Drop)]
 pub struct Noting<'a, D: Disk, N: LogNotes> {

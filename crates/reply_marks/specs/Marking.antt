@@ -5,8 +5,8 @@ use Rattle.file_sums.specs.declared.record.Record.TheVariants.{Mark}
 use Rattle.kept_sums.specs.declared.kept.KeptSums.{KeptSums}
 use Rattle.reply_marks.specs.Replies.{TellsClock}
 
--- behind a reply the clock that it tells is the newest mark, if that is later than the mark before;
--- else all is as it was
+-- the clock in a reply becomes the newest mark, if it is later than the mark before; else all is as it
+-- was
 pub data IsMarked {F : Type 0} (has : KeptSums F → List Record → Type 0) (reply : List ℕ)
     (old new : KeptSums F) : Type 0 where
   Later :

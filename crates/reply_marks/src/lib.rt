@@ -1,4 +1,4 @@
-//! The mark: the latest clock that a client was told of a batch.
+//! The mark: the latest clock in any reply to a batch.
 //!
 //! A reply to a batch has the tenant's clock, and there is such a reply only once the batch is
 //! committed. The clock is appended to FILE-sums before the reply goes out. So a ledger whose clocks
