@@ -42,6 +42,12 @@ IsUnopened told.NotALedger = Unit {0}
 IsUnopened told.Unavailable = Unit {0}
 IsUnopened other = ⊥
 
+-- a fault that is told of FILE-sums
+abbrev pub IsUnmarked : Fault → Type 0
+IsUnmarked told.InUse = Unit {0}
+IsUnmarked told.Behind = Unit {0}
+IsUnmarked other = ⊥
+
 module _ (Finds : OpenFault → Type 0) where
   -- what is told of a ledger's version, or of its rows, was found
   abbrev pub IsFoundFault : OpenFault → Type 0

@@ -10,7 +10,7 @@ ghost use Rattle.commands.specs.Openings.{HasFoundSome, IsFoundFault, IsOpeningF
 ghost use Rattle.commands.specs.Openings.{RefusesImage, RefusesOlder, RefusesSome};
 
 use crate::counting::CountingAudit;
-use crate::marked::{begin_marks, forget, noted, unless_behind};
+use crate::marked::{begin_marks, forget, is_lacking};
 use audit::Damage;
 use chain::InUse;
 use command_texts::Fault;
@@ -58,7 +58,12 @@ pub(crate) fn open_file<St: Start>(
     let options = prepared(rt, path)?;
     let audit = CountingAudit::new();
     match Store::open_at(rt, path, start, options, &audit) {
-        Ok(store) => unless_behind(&noted(rt, path), audit.clock(), InUse { backend: store }),
+        Ok(store) => {
+            if is_lacking(rt, path, audit.clock()) {
+                return Err(Fault::Behind);
+            }
+            Ok(InUse { backend: store })
+        }
         Err((fault, _files)) => Err(open_fault(fault)),
     }
 }
@@ -80,7 +85,10 @@ pub(crate) fn open_served<'a>(
 {
     marks.end();
     match open_measured(rt, path, audit, meter) {
-        Ok(store) => begin_marks(rt, path, marks, audit.clock(), store),
+        Ok(store) => {
+            begin_marks(rt, path, audit.clock(), marks)?;
+            Ok(store)
+        }
         Err(fault) => Err(open_fault(fault)),
     }
 }
@@ -143,7 +151,12 @@ pub(crate) fn open_to_migrate<St: Start>(
     let options = prepared(rt, path)?;
     let audit = CountingAudit::new();
     match LedgerOfVersion::open_for_migration_at(rt, path, start, options, &audit) {
-        Ok(ledger) => unless_behind(&noted(rt, path), audit.clock(), ledger),
+        Ok(ledger) => {
+            if is_lacking(rt, path, audit.clock()) {
+                return Err(Fault::Behind);
+            }
+            Ok(ledger)
+        }
         Err((fault, _files)) => Err(open_fault(fault)),
     }
 }
@@ -170,8 +183,10 @@ pub(crate) fn examine<St: Start>(
     let audit = CountingAudit::new();
     match Store::open_at(rt, path, start, options, &audit) {
         Ok(store) => {
-            let store = InUse { backend: store };
-            Ok(Audited::Sound(unless_behind(&noted(rt, path), audit.clock(), store)?))
+            if is_lacking(rt, path, audit.clock()) {
+                return Err(Fault::Behind);
+            }
+            Ok(Audited::Sound(InUse { backend: store }))
         }
         Err((OpenFault::Damaged(damage), Some(files))) => Ok(Audited::Damaged(damage, files)),
         Err((fault, _files)) => Err(open_fault(fault)),
@@ -276,9 +291,11 @@ fn open_or_make_in<St: Start>(
     let audit = CountingAudit::new();
     match Store::open_at(rt, path, start, options, &audit) {
         Ok(store) => {
-            let store = InUse { backend: store };
+            if is_lacking(rt, path, audit.clock()) {
+                return Err(Fault::Behind);
+            }
             Ok(Opened {
-                store: unless_behind(&noted(rt, path), audit.clock(), store)?,
+                store: InUse { backend: store },
                 is_new: false,
             })
         }

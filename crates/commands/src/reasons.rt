@@ -12,7 +12,8 @@ use std::fs::{self, OpenOptions};
 use std::io::{self, ErrorKind};
 
 /// What can be done about a ledger that lacks commits.
-const ADVICE: &str = "answered commits are missing: put back the file and the log that were served last; \
+const ADVICE: &str =
+    "answered commits are missing: put back the file and the log that were served last; \
     to go on without them, remove FILE-sums";
 
 /// The file that a command works on. Nothing in this process has it open.

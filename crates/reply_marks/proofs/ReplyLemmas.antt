@@ -2,7 +2,7 @@
 use Rattle.std.proofs.Common.{◌≡◌, ◌<◌, ◌^◌, ◌∙◌, ℕ, zero, suc, List, [], ◌∷◌, ◌++◌, drop, slice_index, Option, None, Some, MatchOption, refl, sym, ap, subst, arith}
 use Rattle.std.specs.Prelude.{codes}
 use Rattle.std.specs.Str.Parse.{AllDigits}
-use Rattle.std.proofs.lemmas.Fmt.{decimal_is_IsNumeral}
+use Rattle.std.proofs.lemmas.Fmt.{decimal_injective, decimal_is_IsNumeral}
 use Rattle.std.proofs.lemmas.Str.Parse.{digit_from_value}
 use Rattle.amount.specs.Decimal.{decimal_of}
 use Rattle.reply_marks.specs.Replies.{Lacks, IsSplit, TellsClock}
@@ -38,6 +38,15 @@ decimal_plain n fits = digits_plain (decimal_of n) (decimal_is_IsNumeral n fits)
 -- what stands behind the brace
 abbrev pub front : List ℕ
 front = codes "\"clock\":\""
+
+-- a reply tells one clock
+pub one_clock : (reply : List ℕ) (a b : ℕ) → TellsClock reply a → TellsClock reply b → a ≡ b
+one_clock reply a b first other =
+    let texts = ap (λ (l : List ℕ). drop 9 l)
+    (same_split 123 first.head (front ++ (decimal_of a ++ 34 ∷ first.rest)) other.head (front ++ (decimal_of b ++ 34 ∷ other.rest))
+    first.plain other.plain (sym first.split ∙ other.split)).1 in
+    decimal_injective a b first.fits other.fits
+    (same_split 34 (decimal_of a) first.rest (decimal_of b) other.rest (decimal_plain a first.fits) (decimal_plain b other.fits) texts).0
 
 -- a reply that has no brace tells none
 pub has_brace : (reply : List ℕ) → Lacks 123 reply → (clock : ℕ) → TellsClock reply clock → ⊥

@@ -6,13 +6,16 @@ use std::{fs, io};
 
 // The reply that docs/MESSAGES.md has.
 const REPLY: &[u8] =
-    b"HTTP/1.1 200 OK\r\ncontent-length: 68\r\ncontent-type: application/json\r\n\r\n{\"clock\":\"3\",\"results\":[{\"number\":0,\"result\":\"ok\",\"timestamp\":\"3\"}]}";
+    b"HTTP/1.1 200 OK\r\ncontent-length: 68\r\ncontent-type: application/json\r\n\r\n\
+    {\"clock\":\"3\",\"results\":[{\"number\":0,\"result\":\"ok\",\"timestamp\":\"3\"}]}";
 
 const LATER: &[u8] =
-    b"HTTP/1.1 200 OK\r\ncontent-length: 44\r\ncontent-type: application/json\r\n\r\n{\"clock\":\"1795690658529049140\",\"results\":[]}";
+    b"HTTP/1.1 200 OK\r\ncontent-length: 44\r\ncontent-type: application/json\r\n\r\n\
+    {\"clock\":\"1795690658529049140\",\"results\":[]}";
 
 const REFUSED: &[u8] =
-    b"HTTP/1.1 503 Service Unavailable\r\ncontent-length: 23\r\ncontent-type: application/json\r\n\r\n{\"error\":\"unavailable\"}";
+    b"HTTP/1.1 503 Service Unavailable\r\ncontent-length: 23\r\ncontent-type: application/json\r\n\r\n\
+    {\"error\":\"unavailable\"}";
 
 #[test]
 fn the_clock_of_a_batch_is_found(rt: HostRuntime) {
