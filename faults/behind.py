@@ -52,7 +52,7 @@ def end(house, stops):
 
 
 def newest_told(house):
-    """The latest clock that a tenant was told."""
+    """The latest clock in any reply."""
     return max(desk.ledger.clock for desk in house.desks)
 
 
@@ -94,7 +94,7 @@ def gone(db, end):
 
 
 def cut(db, end, share):
-    """Keeps so many quarters of it."""
+    """Keeps this many quarters of it."""
     if os.path.exists(db + end):
         os.truncate(db + end, os.path.getsize(db + end) * share // 4)
 
@@ -132,7 +132,7 @@ def judge(house, trial, change):
         want((status, out, err) == (0, "ok\n", ""), f"a whole ledger: {status} {out} {err}")
         return serves(house, db, "whole")
     if status == 0:
-        # Who takes the marks away as well, or puts older ones in their place, is not noticed.
+        # A loss is not noticed where the marks are gone or older as well.
         want(not noted, "a ledger that is behind its mark is ok")
         return serves(house, db, "older, as are its marks")
     want(status == 4, f"behind a change: {status} {out} {err}")

@@ -42,7 +42,7 @@ IsUnopened told.NotALedger = Unit {0}
 IsUnopened told.Unavailable = Unit {0}
 IsUnopened other = ⊥
 
--- a fault that is told of FILE-sums
+-- a fault because of FILE-sums
 abbrev pub IsUnmarked : Fault → Type 0
 IsUnmarked told.InUse = Unit {0}
 IsUnmarked told.Behind = Unit {0}

@@ -100,7 +100,7 @@ pub fn make_beside(
 ) -> io::Result<KeptSums<File>> {
     let (name, part) = (access.name()?, access.part_name()?);
     let alloc = access.rt.alloc();
-    remove(access.rt, part.as_str())?;
+    let _was_there = remove(access.rt, part.as_str())?;
     let file = make_own(access, part.as_str())?;
     let (sums, head) = Sums::begin(alloc, NO_PAGES, key)?;
     let mut kept = KeptSums::begin(file, sums, &head)?;
@@ -115,14 +115,18 @@ pub fn make_beside(
 
 /// Takes the FILE-sums of a file away, if it is there.
 pub fn remove_beside(access: &Access<'_>) -> io::Result<()> {
-    remove(access.rt, access.name()?.as_str())?;
-    access.sync_folder()
+    if remove(access.rt, access.name()?.as_str())? {
+        access.sync_folder()?;
+    }
+    Ok(())
 }
 
-fn remove(rt: &HostRuntime, path: &str) -> io::Result<()> {
+// Takes a file away, and says whether it was there.
+fn remove(rt: &HostRuntime, path: &str) -> io::Result<bool> {
     match fs::remove_file(rt, path) {
-        Err(error) if error.kind() != ErrorKind::NotFound => Err(error),
-        _ => Ok(()),
+        Ok(()) => Ok(true),
+        Err(error) if error.kind() == ErrorKind::NotFound => Ok(false),
+        Err(error) => Err(error),
     }
 }
 

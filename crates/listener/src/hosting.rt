@@ -65,7 +65,7 @@ impl Operator for Site<'_> {
         self.bell.note(counts);
     }
 
-    // A clock is marked before the first byte of the reply that tells it goes out.
+    // The clock in a reply is marked before its first byte goes out.
     fn replies(&self, reply: &[u8]) {
         self.marks.note(reply);
         let mut tally = self.bell.tally();
@@ -73,7 +73,9 @@ impl Operator for Site<'_> {
         self.bell.set_tally(tally);
     }
 
+    // Also of a client that sends no more, for which `replies` is not called.
     fn answered(&self, batch: Batch, reply: &[u8]) {
+        self.marks.note(reply);
         let mut tally = self.bell.tally();
         tally.answered(batch, Events::told_in(reply));
         self.bell.set_tally(tally);
