@@ -191,7 +191,8 @@ def agrees(told, expected):
     """Whether what `check` said is what was expected. Damage is told by kind, digest and place."""
     status, out, err = told
     if isinstance(expected, set):
-        word = err.removeprefix("ledgerd: ").split("\n")[0]
+        word = err.removeprefix("ledgerd: ").rstrip("\n")
+        word = "behind" if word.startswith("behind\n") else word
         return out == "" and word in expected and status == (3 if word == "unavailable" else 4)
     if expected == "ok":
         return told == (0, "ok\n", "")
