@@ -299,13 +299,10 @@ fn open_or_make_in<St: Start>(
                 is_new: false,
             })
         }
-        Err((OpenFault::NotALedger, Some(files))) => {
-            forget(rt, path)?;
-            Ok(Opened {
-                store: make_in(rt, files, options)?,
-                is_new: true,
-            })
-        }
+        Err((OpenFault::NotALedger, Some(files))) => Ok(Opened {
+            store: make_in(rt, path, files, options)?,
+            is_new: true,
+        }),
         Err((fault, _files)) => Err(open_fault(fault)),
     }
 }
@@ -313,6 +310,7 @@ fn open_or_make_in<St: Start>(
 // Makes a ledger in the files of a database that is none: tables of anything else stay as they are.
 fn make_in<D: Disk + Drop>(
     rt: &HostRuntime,
+    path: &str,
     files: Files<D>,
     options: Options,
 ) -> Result<InUse<Store<D>>, Fault>
@@ -325,6 +323,7 @@ fn make_in<D: Disk + Drop>(
     if !files.may_be_used() {
         return Err(Fault::Unavailable);
     }
+    forget(rt, path)?;
     match Store::create(rt.alloc(), files, options) {
         Ok(store) => Ok(InUse { backend: store }),
         Err((OpenFault::Unreadable, _files)) => Err(Fault::NotALedger),
