@@ -129,7 +129,7 @@ def main():
     program, data, *numbers = sys.argv[1:]
     accounts, stored = map(int, numbers) if numbers else (10000, 0)
     path = os.path.join(data, "served.db")
-    for old in (path, path + "-wal"):
+    for old in (path, path + "-wal", path + "-sums"):
         if os.path.exists(old):
             os.remove(old)
     ledger = Ledger(os.path.abspath(program), path)

@@ -14,8 +14,9 @@ import sys
 from xml.sax.saxutils import escape
 
 TOP = pathlib.Path(__file__).resolve().parent.parent
-# Crates that the program does not call: tests, what they need, and laws over what the program calls.
-BESIDE = {"samples", "failing_streams", "failing_disk", "whole_runs"}
+# Crates that the program does not call: tests, what they need, laws over what the program calls, and
+# what it does not use yet.
+BESIDE = {"samples", "failing_streams", "failing_disk", "noting_disk", "whole_runs"}
 # Each row of the figure from the top: its parts beside each other. A crate may stand on crates of its
 # own row and of the rows below.
 LAYERS = [
@@ -27,7 +28,7 @@ LAYERS = [
       ["admin_client", "control", "copies", "metered_disk", "command_texts"])],
     [("Connections", "sockets, turns, group commits", ["sockets", "polling", "clients"]),
      ("Store", "a ledger file: opening, audit, crashes, reopening, migration",
-      ["store", "openings", "migrate", "audit", "running"])],
+      ["store", "openings", "migrate", "audit", "running", "reply_marks", "kept_sums", "file_sums"])],
     [("Requests and replies", "HTTP and JSON in and out, over any ledgers; isolation, retries",
       ["service", "parts", "wire", "ledger_http", "statement", "console"]),
      ("Tables", "SQL texts, one tenant's rows, batches in transactions",

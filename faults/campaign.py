@@ -19,6 +19,7 @@ import sys
 import time
 from concurrent.futures import ThreadPoolExecutor
 
+import behind
 import broken
 import chosen
 import commands
@@ -64,6 +65,7 @@ TRIALS = {
     "killed": runs.killed,
     "full": runs.full,
     "broken": broken.broken,
+    "behind": behind.behind,
     "in_use": use.in_use,
     "no_text": given.no_text,
     "addresses": given.addresses,

@@ -7,7 +7,7 @@ import shutil
 
 
 def files(db):
-    return [db + end for end in ("", "-wal", "-shm")]
+    return [db + end for end in ("", "-wal", "-shm", "-sums")]
 
 
 def remove(db):

@@ -20,7 +20,7 @@ WIDTHS = {"user_data_32": 32, "ledger": 32, "timeout": 32, "code": 16, "flags": 
           "timestamp": 63, "at": 63}
 # Sums in the order of their columns: debits pending and posted, credits pending and posted.
 SUMS = ("debits_pending", "debits_posted", "credits_pending", "credits_posted")
-FAULTS = {"unreadable", "not_a_ledger", "old_schema", "newer_schema", "unavailable"}
+FAULTS = {"unreadable", "not_a_ledger", "old_schema", "newer_schema", "unavailable", "behind"}
 
 
 def number(cell):
@@ -192,6 +192,7 @@ def agrees(told, expected):
     status, out, err = told
     if isinstance(expected, set):
         word = err.removeprefix("ledgerd: ").rstrip("\n")
+        word = "behind" if word.startswith("behind\n") else word
         return out == "" and word in expected and status == (3 if word == "unavailable" else 4)
     if expected == "ok":
         return told == (0, "ok\n", "")

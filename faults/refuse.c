@@ -1,6 +1,6 @@
 /* Refuses calls of the program that it is loaded into, as the file says that CONTROL names and that
    is shared with whoever tries it: allocations, calls on files by place (pread, pwrite, syncs,
-   cuts), and what is sent to a client. Of each kind `skip` calls pass, and then `many` are refused;
+   cuts) but for those of FILE-sums, and what is sent to a client. Of each kind `skip` calls pass, and then `many` are refused;
    where `many` is KILL the process is killed there. Calls and refusals are counted. The clock of
    the day is told so many seconds behind. */
 #define _GNU_SOURCE
@@ -8,7 +8,9 @@
 #include <errno.h>
 #include <fcntl.h>
 #include <signal.h>
+#include <stdio.h>
 #include <stdlib.h>
+#include <string.h>
 #include <sys/mman.h>
 #include <sys/socket.h>
 #include <sys/syscall.h>
@@ -67,13 +69,25 @@ static int no_memory(void)
     return control && is_refused(&control->memory, ENOMEM);
 }
 
-static int no_disk(void)
+static int is_of_marks(int fd)
 {
-    return control && is_refused(&control->disk, EIO);
+    char name[32], path[4096];
+    snprintf(name, sizeof name, "/proc/self/fd/%d", fd);
+    ssize_t len = readlink(name, path, sizeof path - 1);
+    if (len < 0)
+        return 0;
+    path[len] = 0;
+    return strstr(path, "-sums") != NULL;
 }
 
-static int no_reply(void)
+static int no_disk(int fd)
 {
+    return control && !is_of_marks(fd) && is_refused(&control->disk, EIO);
+}
+
+static int no_reply(int fd)
+{
+    (void)fd;
     return control && is_refused(&control->sent, EPIPE);
 }
 
@@ -112,7 +126,7 @@ int posix_memalign(void **place, size_t align, size_t size)
         static type(*own) parameters;                                 \
         if (!own)                                                     \
             own = (type(*) parameters)dlsym(RTLD_NEXT, #name);        \
-        return is_no() ? -1 : own arguments;                          \
+        return is_no(fd) ? -1 : own arguments;                        \
     }
 
 REFUSED(no_disk, ssize_t, pread, (int fd, void *to, size_t size, off_t place),

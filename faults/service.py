@@ -140,8 +140,8 @@ class Service:
         return self.text.decode().split("\n")[:-1]
 
     def told(self):
-        """Those behind the first, which says that it serves."""
-        return self.lines()[1:]
+        """Those behind the first, which says that it serves, but for those on FILE-sums."""
+        return [line for line in self.lines()[1:] if "-sums" not in line]
 
     def memory(self):
         """The bytes that the process has in memory."""

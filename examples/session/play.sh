@@ -17,7 +17,7 @@ port=$(python3 "$here/port.py" ${3:+"$3"})
 db=$folder/ledger.db
 mkdir -p "$folder"
 for file in "$db" "$folder/copy.db"; do
-    rm -f "$file" "$file-wal" "$file-shm" "$file.control"
+    rm -f "$file" "$file-wal" "$file-shm" "$file-sums" "$file.control"
 done
 scratch=$(mktemp -d)
 server=

@@ -12,7 +12,7 @@ folder=$2
 port=$(python3 "$here/port.py" ${3:+"$3"})
 mkdir -p "$folder"
 cd "$folder"
-rm -f ledger.db ledger.db-wal ledger.db-shm ledger.db.control
+rm -f ledger.db ledger.db-wal ledger.db-shm ledger.db-sums ledger.db.control
 
 # Adds a tenant, and prints its key.
 key_of() {

@@ -11,7 +11,7 @@ use Rattle.command_texts.specs.declared.fault.Fault.TheVariants.{BadVersion, Bad
 use Rattle.command_texts.specs.declared.fault.Fault.TheVariants.{BadAddress, BadRoute}
 use Rattle.command_texts.specs.declared.fault.Fault.TheVariants.{Unavailable, Socket, Output}
 use Rattle.command_texts.specs.declared.fault.Fault.TheVariants.{Unreadable, NotALedger, OldSchema}
-use Rattle.command_texts.specs.declared.fault.Fault.TheVariants.{NewerSchema, Damaged, InUse}
+use Rattle.command_texts.specs.declared.fault.Fault.TheVariants.{NewerSchema, Damaged, Behind, InUse}
 
 -- the word that tells it
 abbrev pub word_of : Fault → List ℕ
@@ -37,6 +37,7 @@ word_of NotALedger = codes "not_a_ledger"
 word_of OldSchema = codes "old_schema"
 word_of NewerSchema = codes "newer_schema"
 word_of Damaged = codes "damaged"
+word_of Behind = codes "behind"
 word_of InUse = codes "in_use"
 
 -- all of them
@@ -44,7 +45,7 @@ abbrev pub all_faults : List Fault
 all_faults =
     NameTaken ∷ DigestTaken ∷ NoTenant ∷ NoAccount ∷ NotServed ∷ Exists ∷ BadName ∷ BadKey
     ∷ BadAccount ∷ BadVersion ∷ BadTime ∷ BadFormat ∷ BadAddress ∷ BadRoute ∷ Unavailable ∷ Socket ∷ Output
-    ∷ Unreadable ∷ NotALedger ∷ OldSchema ∷ NewerSchema ∷ Damaged ∷ InUse ∷ []
+    ∷ Unreadable ∷ NotALedger ∷ OldSchema ∷ NewerSchema ∷ Damaged ∷ Behind ∷ InUse ∷ []
 
 -- the fault that a word tells, if it is the word of one
 abbrev pub fault_of : List ℕ → Option Fault
@@ -75,6 +76,7 @@ status_of NotALedger = 4
 status_of OldSchema = 4
 status_of NewerSchema = 4
 status_of Damaged = 4
+status_of Behind = 4
 status_of InUse = 5
 
 -- the fault that is told where a sink refuses a row

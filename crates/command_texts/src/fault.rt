@@ -53,6 +53,8 @@ pub enum Fault {
     NewerSchema,
     /// The audit refuses the file's rows.
     Damaged,
+    /// Commits that were answered are missing from the file.
+    Behind,
     /// Another process has the file.
     InUse,
 }
@@ -83,6 +85,7 @@ macro_rules! told {
             Fault::OldSchema => concat!($before, "old_schema", $behind),
             Fault::NewerSchema => concat!($before, "newer_schema", $behind),
             Fault::Damaged => concat!($before, "damaged", $behind),
+            Fault::Behind => concat!($before, "behind", $behind),
             Fault::InUse => concat!($before, "in_use", $behind),
         }
     };
@@ -124,6 +127,7 @@ impl Fault {
             "old_schema" => Some(Fault::OldSchema),
             "newer_schema" => Some(Fault::NewerSchema),
             "damaged" => Some(Fault::Damaged),
+            "behind" => Some(Fault::Behind),
             "in_use" => Some(Fault::InUse),
             _ => None,
         }
@@ -160,7 +164,8 @@ impl Fault {
             | Fault::NotALedger
             | Fault::OldSchema
             | Fault::NewerSchema
-            | Fault::Damaged => 4,
+            | Fault::Damaged
+            | Fault::Behind => 4,
             Fault::InUse => 5,
         }
     }

@@ -31,6 +31,7 @@ IsOpeningFault told.NotALedger = Unit {0}
 IsOpeningFault told.OldSchema = Unit {0}
 IsOpeningFault told.NewerSchema = Unit {0}
 IsOpeningFault told.Damaged = Unit {0}
+IsOpeningFault told.Behind = Unit {0}
 IsOpeningFault told.Unavailable = Unit {0}
 IsOpeningFault other = ⊥
 
@@ -40,6 +41,12 @@ IsUnopened told.Unreadable = Unit {0}
 IsUnopened told.NotALedger = Unit {0}
 IsUnopened told.Unavailable = Unit {0}
 IsUnopened other = ⊥
+
+-- a fault because of FILE-sums
+abbrev pub IsUnmarked : Fault → Type 0
+IsUnmarked told.InUse = Unit {0}
+IsUnmarked told.Behind = Unit {0}
+IsUnmarked other = ⊥
 
 module _ (Finds : OpenFault → Type 0) where
   -- what is told of a ledger's version, or of its rows, was found
@@ -57,6 +64,7 @@ module _ (Finds : OpenFault → Type 0) where
   IsFoundSo told.OldSchema = Finds opening.OldSchema
   IsFoundSo told.NewerSchema = Finds opening.NewerSchema
   IsFoundSo told.Damaged = (damage : Damage) × Finds (opening.Damaged damage)
+  IsFoundSo told.Behind = Unit {0}
   IsFoundSo told.Unavailable = Unit {0}
   IsFoundSo other = ⊥
 

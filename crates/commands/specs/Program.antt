@@ -47,7 +47,7 @@ use Rattle.admin_client.specs.declared.given_key.GivenKey.{GivenKey}
 use Rattle.command_texts.specs.declared.fault.Fault.{Fault}
 use Rattle.command_texts.specs.declared.fault.Fault.TheVariants.{BadName, BadKey, BadAccount}
 use Rattle.command_texts.specs.declared.fault.Fault.TheVariants.{BadVersion, BadTime, BadFormat}
-use Rattle.command_texts.specs.declared.fault.Fault.TheVariants.{Output, Unavailable, Unreadable}
+use Rattle.command_texts.specs.declared.fault.Fault.TheVariants.{Behind, Output, Unavailable, Unreadable}
 
 -- a word on the command line that is no key
 abbrev pub IsNoKey : Option (List ℕ) → Type 0
@@ -243,11 +243,12 @@ abbrev pub TellsFault : Fault → Told → ℕ → Type 0
 TellsFault fault err status =
     (status ≡ status_of fault) × IsWritten err.before err.behind err.has_failed (fault_line fault)
 
--- so is one of a file; the system's reason may stand behind the line of a file that is unreadable
+-- so is one of a file; more may stand behind the line: the system's reason, or what can be done about
+-- a ledger that lacks commits
 abbrev pub TellsFileFault : Fault → Told → ℕ → Type 0
 TellsFileFault fault err status =
     (status ≡ status_of fault)
-    × ((more : List ℕ) × (fault ≢ Unreadable → more ≡ [])
+    × ((more : List ℕ) × (fault ≢ Unreadable → fault ≢ Behind → more ≡ [])
     × IsWritten err.before err.behind err.has_failed (fault_line fault ++ more))
 
 -- a file that has become a new ledger is told on standard error, and else nothing

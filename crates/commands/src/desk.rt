@@ -15,6 +15,7 @@ use copies::Copying;
 use listener::{Bell, Site};
 use metered_disk::Meter;
 use records::{Order as InTime, Span};
+use reply_marks::Marks;
 use sockets::Watcher;
 use std::alloc::Global;
 use std::os::unix::fs::MetadataExt;
@@ -33,6 +34,7 @@ pub struct HostDesk<'a> {
     rt: &'a HostRuntime,
     bell: &'a Bell,
     meter: &'a Meter,
+    marks: &'a Marks<'a>,
     /// The path of the ledger's file.
     db: &'a str,
     watcher: Option<Watcher>,
@@ -110,6 +112,7 @@ impl<'a> HostDesk<'a> {
             rt,
             bell: &site.bell,
             meter: &site.meter,
+            marks: &site.marks,
             db,
             watcher,
             desk: None,
@@ -122,12 +125,18 @@ impl<'a> HostDesk<'a> {
         }
     }
 
+    /// No more replies go out: their marks are let go of, before the file is.
+    pub(crate) fn end_marks(&self) {
+        self.marks.end();
+    }
+
     /// The service has ended: who asked for that is told, and the desk is gone.
     pub(crate) fn close(self) {
         let HostDesk {
             rt,
             bell: _,
             meter: _,
+            marks: _,
             db: _,
             watcher: _,
             desk,

@@ -8,16 +8,18 @@ ghost use Rattle.commands.specs.Openings.{RefusesSome};
 use crate::counting::CountingAudit;
 use crate::desk::HostDesk;
 use crate::opening::{ServedFile, open_served};
+use crate::reasons::tell_advised;
 use crate::renewing::Home;
 use crate::serving::Served;
 use crate::store_serving::{EndedService, serve_to_end};
 use crate::stores::may_be_called;
 use chain::InUse;
 use command_line::LimitWords;
-use command_texts::{Fault, tell_fault};
+use command_texts::Fault;
 use listener::{Bell, Listening, Site, SystemMoments, asked_address, limits_of};
 use metered_disk::Meter;
 use records::Streamed;
+use reply_marks::Marks;
 use sqlite::Files;
 use sqlite_disk::Disk;
 use std::cell::Cell;
@@ -40,6 +42,7 @@ struct HostFile<'a> {
     rt: &'a HostRuntime,
     bell: &'a Bell,
     meter: &'a Meter,
+    marks: &'a Marks<'a>,
     path: &'a str,
     address: SocketAddr,
     audit: CountingAudit,
@@ -56,7 +59,7 @@ impl<'a> Home<ServedFile<'a>> for HostFile<'a> {
     ) -> Result<InUse<Store<ServedFile<'a>>>, Fault> {
         *left = None;
         self.began.set(self.now());
-        open_served(self.rt, self.path, &self.audit, self.meter)
+        open_served(self.rt, self.path, &self.audit, self.meter, self.marks)
     }
 
     fn tell(&self, fault: Fault) {
@@ -64,7 +67,7 @@ impl<'a> Home<ServedFile<'a>> for HostFile<'a> {
             let path = self.path;
             let _ = self.rt.eprintln(format_args!("standing by for {path}"));
         } else {
-            let _ = tell_fault(&mut Streamed::new(self.rt.stderr()), fault);
+            let _ = tell_advised(self.rt, &mut Streamed::new(self.rt.stderr()), fault);
         }
     }
 
@@ -94,6 +97,7 @@ impl<'a> HostFile<'a> {
             rt: site.rt,
             bell: &site.bell,
             meter: &site.meter,
+            marks: &site.marks,
             path,
             address,
             audit: CountingAudit::new(),

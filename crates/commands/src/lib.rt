@@ -12,6 +12,7 @@ mod file_serving;
 mod kept;
 mod laws;
 mod listing;
+mod marked;
 mod opening;
 mod orders;
 mod over_files;

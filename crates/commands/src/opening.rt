@@ -9,6 +9,8 @@ ghost use Rattle.commands.specs.Holding.{IsOpenedOrMade, IsFoundAs, IsFrom, IsMa
 ghost use Rattle.commands.specs.Openings.{HasFoundSome, IsFoundFault, IsOpeningFault, IsUnopened, open_fault};
 ghost use Rattle.commands.specs.Openings.{RefusesImage, RefusesOlder, RefusesSome};
 
+use crate::counting::CountingAudit;
+use crate::marked::{begin_marks, forget, is_lacking};
 use audit::Damage;
 use chain::InUse;
 use command_texts::Fault;
@@ -16,6 +18,7 @@ use metered_disk::{Meter, Metered, measured};
 use migrate::LedgerOfVersion;
 use openings::opening::files_at;
 use records::Unavailable;
+use reply_marks::Marks;
 use sqlite::{Files, Options};
 use sqlite_disk::{Disk, Start, Unknown};
 use sqlite_std_file::{File, FileFrom};
@@ -23,7 +26,7 @@ use std::fs::{self, OpenOptions};
 use std::hash::{BuildHasher, RandomState};
 use std::io::{self, ErrorKind};
 use std::os::unix::fs::OpenOptionsExt;
-use store::{Audit, FullAudit, OpenFault, Store};
+use store::{Audit, OpenFault, Store};
 
 /// How many pages of 4,096 bytes a command keeps in memory, of those that it read and of those that
 /// it wrote.
@@ -53,8 +56,14 @@ pub(crate) fn open_file<St: Start>(
         (RefusesImage ⟦<FileFrom<St> as Disk>⟧ (image_at St.Start)) }
 {
     let options = prepared(rt, path)?;
-    match Store::open_at(rt, path, start, options, &FullAudit) {
-        Ok(store) => Ok(InUse { backend: store }),
+    let audit = CountingAudit::new();
+    match Store::open_at(rt, path, start, options, &audit) {
+        Ok(store) => {
+            if is_lacking(rt, path, audit.clock()) {
+                return Err(Fault::Behind);
+            }
+            Ok(InUse { backend: store })
+        }
         Err((fault, _files)) => Err(open_fault(fault)),
     }
 }
@@ -62,18 +71,24 @@ pub(crate) fn open_file<St: Start>(
 /// A file that is served, whose calls a meter counts.
 pub type ServedFile<'a> = Metered<'a, File, HostRuntime>;
 
-/// The ledger in a file that is there, to be served, behind an audit.
-pub(crate) fn open_served<'a, A: Audit>(
+/// The ledger in a file that is there, to be served, behind an audit. Replies are marked from then
+/// on.
+pub(crate) fn open_served<'a>(
     rt: &'a HostRuntime,
     path: &str,
-    audit: &A,
+    audit: &CountingAudit,
     meter: &'a Meter,
+    marks: &Marks<'_>,
 ) -> Result<InUse<Store<ServedFile<'a>>>, Fault>
     ensures ready { IfOk result AnswersCalls }
     ensures fault { IfErr result (RefusesSome ⟦<ServedFile<'a> as Disk>⟧) }
 {
+    marks.end();
     match open_measured(rt, path, audit, meter) {
-        Ok(store) => Ok(store),
+        Ok(store) => {
+            begin_marks(rt, path, audit.clock(), marks)?;
+            Ok(store)
+        }
         Err(fault) => Err(open_fault(fault)),
     }
 }
@@ -134,8 +149,14 @@ pub(crate) fn open_to_migrate<St: Start>(
     ensures fault { IfErr result (RefusesOlder ⟦<FileFrom<St> as Disk>⟧ (image_at St.Start)) }
 {
     let options = prepared(rt, path)?;
-    match LedgerOfVersion::open_for_migration_at(rt, path, start, options, &FullAudit) {
-        Ok(ledger) => Ok(ledger),
+    let audit = CountingAudit::new();
+    match LedgerOfVersion::open_for_migration_at(rt, path, start, options, &audit) {
+        Ok(ledger) => {
+            if is_lacking(rt, path, audit.clock()) {
+                return Err(Fault::Behind);
+            }
+            Ok(ledger)
+        }
         Err((fault, _files)) => Err(open_fault(fault)),
     }
 }
@@ -159,8 +180,14 @@ pub(crate) fn examine<St: Start>(
         (RefusesImage ⟦<FileFrom<St> as Disk>⟧ (image_at St.Start)) }
 {
     let options = prepared(rt, path)?;
-    match Store::open_at(rt, path, start, options, &FullAudit) {
-        Ok(store) => Ok(Audited::Sound(InUse { backend: store })),
+    let audit = CountingAudit::new();
+    match Store::open_at(rt, path, start, options, &audit) {
+        Ok(store) => {
+            if is_lacking(rt, path, audit.clock()) {
+                return Err(Fault::Behind);
+            }
+            Ok(Audited::Sound(InUse { backend: store }))
+        }
         Err((OpenFault::Damaged(damage), Some(files))) => Ok(Audited::Damaged(damage, files)),
         Err((fault, _files)) => Err(open_fault(fault)),
     }
@@ -239,6 +266,7 @@ fn make<St: Start>(rt: &HostRuntime, path: &str, start: St) -> Result<Opened<Fil
         (RefusesImage ⟦<FileFrom<St> as Disk>⟧ (image_at St.Start)) }
 {
     let options = small_options(rt)?;
+    forget(rt, path)?;
     match Store::create_at(rt, path, start, options) {
         Ok(store) => Ok(Opened {
             store: InUse { backend: store },
@@ -260,13 +288,19 @@ fn open_or_make_in<St: Start>(
         (RefusesImage ⟦<FileFrom<St> as Disk>⟧ (image_at St.Start)) }
 {
     let options = small_options(rt)?;
-    match Store::open_at(rt, path, start, options, &FullAudit) {
-        Ok(store) => Ok(Opened {
-            store: InUse { backend: store },
-            is_new: false,
-        }),
+    let audit = CountingAudit::new();
+    match Store::open_at(rt, path, start, options, &audit) {
+        Ok(store) => {
+            if is_lacking(rt, path, audit.clock()) {
+                return Err(Fault::Behind);
+            }
+            Ok(Opened {
+                store: InUse { backend: store },
+                is_new: false,
+            })
+        }
         Err((OpenFault::NotALedger, Some(files))) => Ok(Opened {
-            store: make_in(rt, files, options)?,
+            store: make_in(rt, path, files, options)?,
             is_new: true,
         }),
         Err((fault, _files)) => Err(open_fault(fault)),
@@ -276,6 +310,7 @@ fn open_or_make_in<St: Start>(
 // Makes a ledger in the files of a database that is none: tables of anything else stay as they are.
 fn make_in<D: Disk + Drop>(
     rt: &HostRuntime,
+    path: &str,
     files: Files<D>,
     options: Options,
 ) -> Result<InUse<Store<D>>, Fault>
@@ -288,6 +323,7 @@ fn make_in<D: Disk + Drop>(
     if !files.may_be_used() {
         return Err(Fault::Unavailable);
     }
+    forget(rt, path)?;
     match Store::create(rt.alloc(), files, options) {
         Ok(store) => Ok(InUse { backend: store }),
         Err((OpenFault::Unreadable, _files)) => Err(Fault::NotALedger),

@@ -11,6 +11,11 @@ use records::Drain;
 use std::fs::{self, OpenOptions};
 use std::io::{self, ErrorKind};
 
+/// What can be done about a ledger that lacks commits.
+const ADVICE: &str =
+    "answered commits are missing: put back the file and the log that were served last; \
+    to go on without them, remove FILE-sums";
+
 /// The file that a command works on. Nothing in this process has it open.
 #[derive(Clone, Copy, Debug, PartialEq, Eq)]
 pub struct Place<'a> {
@@ -88,7 +93,18 @@ fn tell_both<E: Drain>(rt: &HostRuntime, err: &mut E, fault: Fault, reason: Opti
     }
 }
 
-/// Tells a fault, and of a file that is unreadable what the system answers who would read it.
+/// Tells a fault, and of a ledger that lacks commits what can be done.
+pub(crate) fn tell_advised<E: Drain>(rt: &HostRuntime, err: &mut E, fault: Fault) -> u8
+    ensures { TellsFileFault fault (told (E.written err.old)
+        (E.written err.new) (E.failed err.new)) result }
+{
+    match fault {
+        Fault::Behind => tell_fault_for(rt.alloc(), err, fault, ADVICE),
+        _ => tell_fault(err, fault),
+    }
+}
+
+/// Tells a fault, of a file that is unreadable with what the system answers who would read it.
 pub fn tell_file_fault<E: Drain>(
     rt: &HostRuntime,
     err: &mut E,
@@ -100,6 +116,6 @@ pub fn tell_file_fault<E: Drain>(
 {
     match fault {
         Fault::Unreadable => tell_both(rt, err, fault, reason(rt, place)),
-        _ => tell_fault(err, fault),
+        _ => tell_advised(rt, err, fault),
     }
 }

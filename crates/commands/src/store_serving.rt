@@ -40,6 +40,7 @@ impl<D: Disk + Drop, P: Drop, C: Drop> EndedService<D, P, C, HostDesk<'_>> {
             moments: _moments,
             orders,
         } = self;
+        orders.end_marks();
         drop(kept);
         orders.close();
         why

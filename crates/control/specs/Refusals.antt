@@ -38,6 +38,7 @@ fault_status fault.NotALedger = 503
 fault_status fault.OldSchema = 503
 fault_status fault.NewerSchema = 503
 fault_status fault.Damaged = 503
+fault_status fault.Behind = 503
 fault_status fault.InUse = 503
 
 -- the status of a refusal

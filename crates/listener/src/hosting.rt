@@ -4,6 +4,7 @@ use crate::bell::Bell;
 use crate::events::Events;
 use metered_disk::Meter;
 use polling::Batch;
+use reply_marks::Marks;
 use sockets::{Counts, Operator};
 use std::time::Duration;
 
@@ -17,6 +18,8 @@ pub struct Site<'a> {
     pub bell: Bell,
     /// What the disk of its file has done.
     pub meter: Meter,
+    /// The marks of the replies that go out.
+    pub marks: Marks<'a>,
 }
 
 impl<'a> Site<'a> {
@@ -26,6 +29,7 @@ impl<'a> Site<'a> {
             rt,
             bell: Bell::new(),
             meter: Meter::new(),
+            marks: Marks::new(rt),
         }
     }
 }
@@ -57,13 +61,17 @@ impl Operator for Site<'_> {
         self.bell.note(counts);
     }
 
+    // The clock in a reply is marked before its first byte goes out.
     fn replies(&self, reply: &[u8]) {
+        self.marks.note(reply);
         let mut tally = self.bell.tally();
         tally.replied(reply);
         self.bell.set_tally(tally);
     }
 
+    // Also of a client that sends no more, for which `replies` is not called.
     fn answered(&self, batch: Batch, reply: &[u8]) {
+        self.marks.note(reply);
         let mut tally = self.bell.tally();
         tally.answered(batch, Events::told_in(reply));
         self.bell.set_tally(tally);

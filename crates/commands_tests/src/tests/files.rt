@@ -6,6 +6,8 @@ use chain::InUse;
 use command_line::LimitWords;
 use command_texts::Fault;
 use commands::{Served, program, serve_file};
+use file_sums::Record;
+use kept_sums::{Access, make_beside};
 use listener::Site;
 use records::{Drain, Streamed};
 use sqlite::{Alter, Connection, File, Options};
@@ -48,6 +50,8 @@ pub enum Step {
     Changes(&'static str),
     /// These bytes are written to the file in place of what it held.
     Writes(&'static [u8]),
+    /// FILE-sums is made with this mark.
+    Marks(u64),
 }
 
 // What is told of a file that is absent, as errno(3) of Linux names it.
@@ -83,6 +87,11 @@ fn take_step(rt: &HostRuntime, db: &str, step: Step) -> Result<(), Fail> {
         Step::Breaks(bytes, fault) => breaks(rt, db, bytes, fault),
         Step::Changes(sql) => change(rt, db, sql),
         Step::Writes(bytes) => Ok(fs::write(rt, db, bytes)?),
+        Step::Marks(mark) => {
+            let access = Access { rt, path: db };
+            let _kept = make_beside(&access, 7, &[Record::Mark(mark)])?;
+            Ok(())
+        }
     }
 }
 
@@ -140,10 +149,12 @@ pub fn run_program<O: Drain + Drop>(
     Ok((status, err.into_inner()))
 }
 
-// Takes a file and its log away, if they are there.
+// Takes a file, its log and its FILE-sums away, if they are there.
 fn clear(rt: &HostRuntime, db: &str) -> Result<(), AllocError> {
     let log = format!(in rt.alloc(); "{db}-wal")?;
+    let sums = format!(in rt.alloc(); "{db}-sums")?;
     remove(rt, [db, log.as_str()]);
+    remove(rt, [sums.as_str(), log.as_str()]);
     Ok(())
 }
 

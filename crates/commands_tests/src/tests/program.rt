@@ -1,7 +1,9 @@
 //! The program on host files.
-use super::files::Step::{Changes, Fills, IsPrivate, Lacks, Makes, Posts, Refuses, Tells, Writes};
+use super::files::Step::{Changes, Fills, IsPrivate, Lacks, Makes, Marks, Posts, Refuses, Serves};
+use super::files::Step::{Tells, Writes};
 use super::files::{Step, remove, run_program, take_steps, tells};
 use super::firms::KEY;
+use command_texts::Fault;
 use commands::program;
 use records::Streamed;
 use sqlite_disk::Unknown;
@@ -234,6 +236,36 @@ const WRONG: [Step; 21] = [
     Refuses("migrate --to=3", 4, "not_a_ledger"),
 ];
 
+const BEHIND: &str = concat!(
+    "behind\nanswered commits are missing: put back the file and the log that were served last; ",
+    "to go on without them, remove FILE-sums"
+);
+
+// The clock of 'posted in part' is 6.
+const LACKING: [Step; 13] = [
+    Posts,
+    Marks(6),
+    Tells("check", 0, "ok\n"),
+    Marks(7),
+    Refuses("check", 4, BEHIND),
+    Refuses("tenants", 4, BEHIND),
+    Refuses(tenant_add!("b", "00000000"), 4, BEHIND),
+    Refuses("statement --tenant=a --account=1", 4, BEHIND),
+    Refuses("migrate --to=3", 4, BEHIND),
+    Serves(0, Some(Fault::Behind)),
+    Marks(6),
+    Serves(0, None),
+    Tells("check", 0, "ok\n"),
+];
+
+// A new ledger lacks nothing, whatever was marked of one that stood there before.
+const REPLACED: [Step; 4] = [
+    Writes(&[]),
+    Marks(7),
+    Makes(tenant_add!("a", "00000000"), "added a\n"),
+    Tells("check", 0, "ok\n"),
+];
+
 const NOISE: [Step; 5] = [
     Writes(&[255; 100]),
     Refuses("check", 4, "unreadable"),
@@ -291,12 +323,14 @@ fn makes_ledgers_and_writes_to_them(rt: HostRuntime) -> Result<(), Fail> {
     take_steps(&rt, "empty.db", &EMPTY)?;
     take_steps(&rt, "blank.db", &BLANK)?;
     take_steps(&rt, "statement.db", &STATEMENTS)?;
+    take_steps(&rt, "replaced.db", &REPLACED)?;
     take_steps(&rt, "full.db", &FULL)
 }
 
 #[test]
 fn tells_what_is_wrong_with_a_file(rt: HostRuntime) -> Result<(), Fail> {
     take_steps(&rt, "wrong.db", &WRONG)?;
+    take_steps(&rt, "lacking.db", &LACKING)?;
     take_steps(&rt, "noise.db", &NOISE)?;
     take_steps(&rt, "notes.db", &NOTES)?;
     take_steps(&rt, "older.db", &OLDER)

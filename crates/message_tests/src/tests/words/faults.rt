@@ -4,7 +4,7 @@ use command_texts::{Fault, tell_fault, tell_fault_for, tell_new_ledger};
 use records::Streamed;
 use std::test::Fail;
 
-const FAULTS: [(Fault, &str, u8); 23] = [
+const FAULTS: [(Fault, &str, u8); 24] = [
     (Fault::NameTaken, "ledgerd: name_taken\n", 1),
     (Fault::DigestTaken, "ledgerd: digest_taken\n", 1),
     (Fault::NoTenant, "ledgerd: no_tenant\n", 1),
@@ -27,6 +27,7 @@ const FAULTS: [(Fault, &str, u8); 23] = [
     (Fault::OldSchema, "ledgerd: old_schema\n", 4),
     (Fault::NewerSchema, "ledgerd: newer_schema\n", 4),
     (Fault::Damaged, "ledgerd: damaged\n", 4),
+    (Fault::Behind, "ledgerd: behind\n", 4),
     (Fault::InUse, "ledgerd: in_use\n", 5),
 ];
 

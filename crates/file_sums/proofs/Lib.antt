@@ -1,0 +1,4 @@
+mod Further
+mod Heads
+mod Numbers
+mod Standing

@@ -1,0 +1,18 @@
+//! The mark: the latest clock in any reply to a batch.
+//!
+//! A reply to a batch has the tenant's clock, and there is such a reply only once the batch is
+//! committed. The clock is appended to FILE-sums before the reply goes out. So a ledger whose clocks
+//! are all below the mark lacks a commit that was answered.
+#![tactic(auto)]
+
+mod clock;
+mod latest;
+mod marking;
+mod marks;
+#[cfg(test)]
+mod tests;
+
+pub use clock::clock_in;
+pub use latest::latest_clock;
+pub use marking::mark_reply;
+pub use marks::{Found, Marks, forget_beside, noted_beside};

@@ -1,0 +1,182 @@
+"""The three files of a ledger that was served, one or more of them gone, older or cut."""
+
+import os
+import shutil
+import sqlite3
+
+from copies import copy
+from runs import House
+from service import Service, run, want
+
+BEHIND = ("ledgerd: behind\nanswered commits are missing: put back the file and the log that were "
+          "served last; to go on without them, remove FILE-sums\n")
+# What a file is refused as whose pages are of two moments.
+MIXED = ("unreadable", "not_a_ledger")
+CLOCKS = "SELECT max(clock) FROM clock"
+
+
+def behind(trial):
+    """Whatever is done to the files, an opening has every answered commit, or tells that it has
+    not; and a ledger that has them is never refused."""
+    times = 8 if trial.is_long else 2
+    told = {}
+    for turn in range(times):
+        house = House(trial.fresh())
+        house.begin()
+        kept = [trial.inner() for _ in range(3)]
+        for folder in kept:
+            for _ in range(house.random.randrange(3, 12)):
+                place, events = house.draw()
+                want(house.take_turn(place).batch(events), "unavailable, with all at hand")
+            copy(house.db, os.path.join(folder, "ledger.db"))
+        end(house, turn % 2 == 0)
+        for name, change in changes(house, kept):
+            outcome = judge(house, trial, change)
+            told.setdefault(outcome, []).append(name)
+        served_on(house)
+        trial.progress(f"{turn + 1} ledgers")
+    want(told.get("behind"), "no ledger was behind")
+    counts = ", ".join(f"{len(names)} {outcome}" for outcome, names in sorted(told.items()))
+    return f"{times} ledgers, their files changed in {sum(map(len, told.values()))} ways: {counts}"
+
+
+def end(house, stops):
+    """Ends the service, as an operator or as a crash does."""
+    for desk in house.desks:
+        desk.leave()
+    if stops:
+        told = run(house.program, "stop", "--db", house.db)
+        want(told == (0, "stopped\n", ""), f"stop: {told}")
+    house.service.gone()
+    house.service = None
+
+
+def newest_told(house):
+    """The latest clock in any reply."""
+    return max(desk.ledger.clock for desk in house.desks)
+
+
+def newest_in(db):
+    """The latest clock that a stock SQLite reads in these files. None where it reads none."""
+    try:
+        connection = sqlite3.connect(db)
+        try:
+            return connection.execute(CLOCKS).fetchone()[0]
+        finally:
+            connection.close()
+    except sqlite3.DatabaseError:
+        return None
+
+
+def changes(house, kept):
+    """Names of changes, and what makes each in a copy of the files."""
+    older = [os.path.join(folder, "ledger.db") for folder in kept]
+    yield "untouched", lambda db: None
+    yield "no sums", lambda db: gone(db, "-sums")
+    yield "no log", lambda db: gone(db, "-wal")
+    yield "no log, no sums", lambda db: (gone(db, "-wal"), gone(db, "-sums"))
+    for share in (0, 1, 2, 3):
+        yield f"log cut {share}", lambda db, share=share: cut(db, "-wal", share)
+        yield f"sums cut {share}", lambda db, share=share: cut(db, "-sums", share)
+    yield "sums of other bytes", lambda db: scribble(db, house.random)
+    for number, source in enumerate(older):
+        for ends in (["-wal"], [""], ["-sums"], ["", "-wal"], ["-wal", "-sums"],
+                     ["", "-wal", "-sums"]):
+            yield (f"{'+'.join(ends) or 'file'} of {number}",
+                   lambda db, source=source, ends=ends: exchange(db, source, ends))
+    yield "looked at by sqlite3", newest_in
+    yield "checkpointed by sqlite3", written_back
+
+
+def gone(db, end):
+    if os.path.exists(db + end):
+        os.remove(db + end)
+
+
+def cut(db, end, share):
+    """Keeps this many quarters of it."""
+    if os.path.exists(db + end):
+        os.truncate(db + end, os.path.getsize(db + end) * share // 4)
+
+
+def scribble(db, drawn):
+    with open(db + "-sums", "r+b") as file:
+        file.seek(drawn.randrange(os.path.getsize(db + "-sums")))
+        file.write(b"\x5a\xa5")
+
+
+def exchange(db, source, ends):
+    for end in ends:
+        gone(db, end)
+        if os.path.exists(source + end):
+            shutil.copy(source + end, db + end)
+
+
+def written_back(db):
+    connection = sqlite3.connect(db)
+    connection.execute("PRAGMA wal_checkpoint(TRUNCATE)")
+    connection.close()
+
+
+def judge(house, trial, change):
+    """What `check` and `serve` say of the files behind a change: as one, and rightly."""
+    folder = trial.inner()
+    db, read = (os.path.join(folder, name) for name in ("ledger.db", "read.db"))
+    copy(house.db, db)
+    change(db)
+    copy(db, read)
+    newest = newest_in(read)
+    noted = is_marked(db, newest)
+    status, out, err = run(house.program, "check", "--db", db)
+    if newest is not None and newest >= newest_told(house):
+        want((status, out, err) == (0, "ok\n", ""), f"a whole ledger: {status} {out} {err}")
+        return serves(house, db, "whole")
+    if status == 0:
+        # A loss is not noticed where the marks are gone or older as well.
+        want(not noted, "a ledger that is behind its mark is ok")
+        return serves(house, db, "older, as are its marks")
+    want(status == 4, f"behind a change: {status} {out} {err}")
+    if err == BEHIND:
+        want(noted, "behind, with no mark")
+        return refuses(house, db, "behind", BEHIND)
+    word = err.removeprefix("ledgerd: ").strip().split("\n")[0]
+    want(out.startswith("damaged ") or word in MIXED, f"a change is told as {out} {err}")
+    return refuses(house, db, "of mixed files", None)
+
+
+def is_marked(db, newest):
+    """Whether the marks beside the file tell a later clock than it has."""
+    return os.path.exists(db + "-sums") and (newest is None or last_mark(db + "-sums") > newest)
+
+
+def last_mark(path):
+    """The latest mark of a file of marks by its format in docs/STORAGE.md, and 0 where its head is
+    none."""
+    with open(path, "rb") as file:
+        text = file.read()
+    if len(text) < 32 or text[:8] != b"LDGRSUMS":
+        return 0
+    at, latest = 32, 0
+    while at + 24 <= len(text) and text[at:at + 8] == b"\x04\0\0\0\x08\0\0\0":
+        latest = max(latest, int.from_bytes(text[at + 8:at + 16], "little"))
+        at += 24
+    return latest
+
+
+def serves(house, db, outcome):
+    service = Service(house.program, db)
+    service.kill()
+    return outcome
+
+
+def refuses(house, db, outcome, line):
+    status, out, err = run(house.program, "serve", "--db", db, "--port", "0")
+    want(status == 4 and not out and line in (None, err), f"serve: {status} {out} {err}")
+    return outcome
+
+
+def served_on(house):
+    """The files as they were left are served, with all that was answered."""
+    house.start()
+    house.compare()
+    house.stop()
