@@ -51,6 +51,13 @@ pub trait Peers {
     fn told(&mut self, fresh: u64) -> Told
         ensures { does self.old (Said fresh result) self.new };
 
+    /// The same, while messages wait for their turns: so nothing is waited for.
+    fn told_at_once(&mut self, fresh: u64) -> Told
+        ensures { does self.old (Said fresh result) self.new }
+    {
+        self.told(fresh)
+    }
+
     /// Whether something more has happened that `told` tells without waiting.
     fn has_more(&self) -> bool;
 

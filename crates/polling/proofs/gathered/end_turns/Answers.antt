@@ -1,0 +1,16 @@
+use Rattle.std.proofs.Common.{◌≡◌, refl, ap, sym, ⊤, tt, ℕ, List, arith}
+use Rattle.polling.specs.Ring.{numbers_of}
+use Rattle.polling.specs.Standing.{turns_of}
+use Rattle.polling.proofs.AllLemmas.{beside, none_owed, owed_for, then_owed, turns_as}
+use Rattle.polling.proofs.gathered.end_turns.Goals as goal
+
+pub loop-init : goal.loop-init
+loop-init g c = none_owed (λ one found. found)
+
+pub loop-preserved : goal.loop-preserved
+loop-preserved g c =
+    let few = c.finish_one.ensures.few in
+    then_owed (turns_as c.let_go-number.ensures.first c.loop.invariant)
+    (beside (turns_of (numbers_of c.let_go-number.new.self.ring.waiting))
+    (owed_for c.finish_one.ensures.serves (λ is. tt)))
+    (omega (arith, few))
