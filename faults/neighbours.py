@@ -81,7 +81,7 @@ class Busy:
 
 
 def take_all(port, key, connections, first, counted, ends):
-    """Sends batches by so many connections until it is ended, and counts the replies."""
+    """Sends batches by that many connections until it is ended, and counts the replies."""
     numbers = iter(range(first, 10**9))
     template = message("transfers", key, [transfer("@" * 9 + f"{each:03d}") for each in range(BATCH)])
     with selectors.DefaultSelector() as ready:

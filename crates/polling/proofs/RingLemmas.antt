@@ -18,17 +18,17 @@ pub not_before :
     is_before last one third ≡ false → is_before last one other ≡ false
 not_before last one other third before none = grind (arith, nat_tests)
 
--- behind a turn each other tenant is before the one that had it
+-- after a turn, each other tenant is before the one that had it
 pub before_last : (last one : ℕ) → one ≢ last → is_before last one last ≡ true
 before_last last one other = grind (arith, nat_tests)
 
--- and so it is behind the next turn, of one that is not behind it
+-- and so it is after the next turn, of a tenant that is not after it
 pub still_before :
     (last one other turn : ℕ) → is_before last one other ≡ true →
     is_before last one turn ≡ false → turn ≢ one → is_before turn one other ≡ true
 still_before last one other turn before first apart = grind (arith, nat_tests)
 
--- it is not the turn of whom this one is before
+-- the turn is not that of a tenant that this one is before
 pub not_behind :
     (last one other turn : ℕ) → is_before last one other ≡ true →
     is_before last one turn ≡ false → turn ≢ other
@@ -175,7 +175,7 @@ had_before_on one other turns turn had = record {
   none = had.none;
 }
 
--- behind turns either a tenant had one before another, or it waits and is before that one
+-- after some turns either a tenant had one before another, or it waits and is before that one
 abbrev Goes : ℕ → ℕ → List Waiting → Order → Type 0
 Goes one other turns last =
     HadTurnBefore one other turns

@@ -26,7 +26,7 @@ NextIs Is talk =
 abbrev pub IsWaitingBatch : (List ℕ → Type 0) → List ℕ → Type 0
 IsWaitingBatch waits message = IsBatch message × waits message
 
--- a client is put off only where its next message is whole, and is a batch that a steward puts off
+-- a client is deferred only if its next message is whole, and is a batch that the supervisor defers
 abbrev pub IsPutOff : (List ℕ → Type 0) → Talk → Type 0
 IsPutOff waits talk = NextIs (IsWaitingBatch waits) talk
 
@@ -46,7 +46,7 @@ IsNextKind waits talk kind.Page = Unit {0}
 IsNextKind waits talk (kind.Long size) = Unit {0}
 IsNextKind waits talk kind.Other = Unit {0}
 
--- what becomes of who is in that seat: it is put off only with a reason
+-- what becomes of a client: it is deferred only with a reason
 abbrev pub IsPlaced : (List ℕ → Type 0) → Option Talk → Place → Type 0
 IsPlaced waits seat Gathered = Unit {0}
 IsPlaced waits seat Now = Unit {0}

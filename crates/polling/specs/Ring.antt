@@ -77,7 +77,7 @@ pub record HadTurnBefore (one other : ℕ) (turns : List Waiting) : Type 0 where
   pub own : turn.tenant ≡ one
   pub none : IsNoneOfTenant front other
 
--- behind a turn of one tenant each other tenant that waits has a turn before that one has its next
+-- after a turn of one tenant, each other tenant that waits has a turn before that one has its next
 abbrev pub TurnsGoRound : Type 0
 TurnsGoRound =
     (first last : Order) (turns : List Waiting) (tenant : ℕ) (next : Waiting)

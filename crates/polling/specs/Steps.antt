@@ -70,7 +70,7 @@ pub record IsAdded (waiting : Waiting) (old new : Chosen) : Type 0 where
       × (new.batches.items ≡ old.batches.items)
 
 -- messages have their turns, and these are their clients: those whose messages are no batches, and
--- the others. Who waited is one of them, or waits still
+-- the others. A client that waited is one of them, or waits still
 pub record TakesTurns (old new : Order) (chosen : Chosen) : Type 0 where
   pub given : List Waiting
   pub turns : Turns old given new

@@ -10,8 +10,8 @@ use Rattle.ledger_http.specs.Question.{Question, asked_of}
 abbrev pub tenant_by : List ℕ → ℕ
 tenant_by key = from_be_bytes w128 (take 16 (sha256 key))
 
--- the tenant of a message is that of the key that it names; a message that names none, or for which
--- memory was wanting, is of tenant 0
+-- the tenant of a message is that of the key that it names; a message that names none, or one for
+-- which memory lacks, is of tenant 0
 abbrev pub IsTenantOf : List ℕ → ℕ → Type 0
 IsTenantOf message tenant =
     (tenant ≡ 0)

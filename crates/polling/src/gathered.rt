@@ -119,8 +119,8 @@ fn share<L: Rounds, H: Steward<L>, C: Moments, P: Peers>(
     replies
 }
 
-/// Answers the messages of those who have their turns: those that are no batches one by one, and
-/// then the batches in one round, with so many replies at most. Says how many there were.
+/// Answers the messages that have their turns, with `most` replies at most: those that are no
+/// batches one by one, and then the batches in one round. Returns how many replies there were.
 fn answer_chosen<L: Rounds, H: Steward<L>, C: Moments, P: Peers>(
     alloc: Global,
     peers: &mut P,
@@ -159,7 +159,7 @@ fn answer_chosen<L: Rounds, H: Steward<L>, C: Moments, P: Peers>(
     answered + shared + more
 }
 
-/// Nobody waits for a turn any more: each is to be told again.
+/// Ends the turns: each client that waits keeps its place, and nothing is answered.
 fn end_turns<L: Rounds, H: Steward<L>, C: Moments, P: Peers>(
     alloc: Global,
     peers: &mut P,
@@ -181,8 +181,8 @@ fn end_turns<L: Rounds, H: Steward<L>, C: Moments, P: Peers>(
     }
 }
 
-/// Gives turns to those who wait where nobody more is to be waited for, with so many replies at
-/// most, and says how many there were.
+/// Gives turns to messages that wait if no further ones are expected at once, with `most` replies
+/// at most. Returns how many replies there were.
 pub(crate) fn serve_due<L: Rounds, H: Steward<L>, C: Moments, P: Peers>(
     alloc: Global,
     peers: &mut P,

@@ -15,20 +15,20 @@ use clients::Client;
 use std::alloc::Global;
 use std::collections::BTreeMap;
 
-/// How many messages are answered at once at most.
+/// The most messages that are answered at once.
 pub(crate) const MOST_TURNS: usize = 32;
 
-/// How many bytes of messages are answered at once at most, unless one alone has more.
+/// The most bytes of messages that are answered at once, unless one alone has more.
 const MOST_BYTES: usize = 128 * 1024;
 
 /// How many clients are served alone behind a round that was not kept.
 const ALONE: u64 = 32;
 
-/// As how many bytes a page of records counts, which looks at 2,000 of them: so five are answered
-/// at once at most.
+/// A page of records counts as this many bytes, since it looks at 2,000 records. So at most five
+/// are answered at once.
 const PAGE_BYTES: usize = MOST_BYTES / 5;
 
-/// Behind so many bytes of it, a message that is no batch waits for its turn.
+/// A message that is no batch has its turn at once unless it is longer than this, in bytes.
 const SHORT: usize = 4096;
 
 /// What becomes of a client who is ready.
@@ -38,7 +38,7 @@ pub(crate) enum Place {
     Gathered,
     /// It has its turn.
     Now,
-    /// It keeps its place for the next turn: the steward puts it off.
+    /// It keeps its place for the next turn: the supervisor defers it.
     Later,
 }
 
@@ -64,13 +64,13 @@ pub(crate) struct Chosen {
 /// What a client's next message is.
 #[derive(Clone, Copy, Debug, PartialEq, Eq)]
 enum Kind {
-    /// A batch of so many bytes.
+    /// A batch, with its length in bytes.
     Batch(usize),
-    /// A batch that the steward puts off.
+    /// A batch that the supervisor defers.
     PutOff,
     /// A page of records, which takes as long as it looks at.
     Page,
-    /// Another one of so many bytes, which is long.
+    /// Another message that is long, with its length in bytes.
     Long(usize),
     /// Any other, or none that may be answered and is whole.
     Other,
@@ -209,7 +209,7 @@ impl Gathered {
         })
     }
 
-    // A message waits for its turn. Where memory is wanting for that it has its turn now.
+    // A message waits for its turn. If memory lacks for that, it has its turn now.
     fn gather(&mut self, waiting: Waiting) -> Place
         ensures gathers { GathersNext (numbers_of self.old.ring.waiting)
             (numbers_of self.new.ring.waiting) waiting.number result }
@@ -221,8 +221,8 @@ impl Gathered {
         }
     }
 
-    /// Whether turns are to be given now, where so many replies are wanted, and there is more to be
-    /// told without waiting, or not.
+    /// Whether turns are to be given now. `most` is how many replies are asked for, and `has_more`
+    /// says whether something else has happened already.
     pub(crate) fn is_due(&self, has_more: bool, most: u64) -> bool
         ensures { result ≡ false →
             (self.now.ring.waiting ≡ []) ⊎ (length self.now.ring.waiting < most) }
@@ -231,7 +231,7 @@ impl Gathered {
         count > 0 && (self.is_closed || !has_more || count as u64 >= most)
     }
 
-    // How many messages are answered at once at most.
+    // The most messages that are answered at once.
     fn most_turns(&self) -> usize
         ensures { result ≤ 32 }
     {
@@ -262,7 +262,7 @@ impl Gathered {
         chosen
     }
 
-    /// Lets somebody go who waits, and says who.
+    /// Removes a client that waits, and returns its number.
     pub(crate) fn let_go(&mut self) -> u64
         requires { self.old.ring.waiting ≢ [] }
         ensures first { numbers_of self.old.ring.waiting

@@ -50,8 +50,8 @@ pub fn serving_goes_on<L: Ledgers, H: Steward<L>, C: Moments, P: Peers>()
     ensures told { EndsTold (rules L.means C.gives H.renews H.waits P.does) }
 {}
 
-/// Behind a turn of one tenant each other tenant that waits has a turn before that one has its
-/// next, however many clients each has and whoever comes meanwhile.
+/// After a turn of one tenant, each other tenant that waits has a turn before that one has its
+/// next. This holds for any number of clients of each, whichever messages arrive meanwhile.
 pub fn turns_go_round()
     ensures { TurnsGoRound }
 {}

@@ -12,7 +12,7 @@ pub enum Told {
     Joined,
     /// A client may have sent something, or may take something, or asked for another turn.
     Ready(u64),
-    /// A client has had its time.
+    /// A client has had its time, or its connection was reset.
     Late(u64),
     /// Nothing more for now.
     Nothing,
@@ -51,7 +51,7 @@ pub trait Peers {
     fn told(&mut self, fresh: u64) -> Told
         ensures { does self.old (Said fresh result) self.new };
 
-    /// The same, while messages wait for their turns: so nothing is waited for.
+    /// The same while messages wait for their turns: this returns at once.
     fn told_at_once(&mut self, fresh: u64) -> Told
         ensures { does self.old (Said fresh result) self.new }
     {

@@ -123,8 +123,7 @@ impl Ring {
         Some(waiting)
     }
 
-    /// Takes out the message that came first, which is to have no turn now, and says of which
-    /// client it is.
+    /// Removes the message that came first, without a turn, and returns the number of its client.
     pub(crate) fn let_go(&mut self) -> u64
         requires { self.old.waiting ≢ [] }
         ensures first { numbers_of self.old.waiting ≡ result ∷ numbers_of self.new.waiting }

@@ -178,7 +178,7 @@ fn is_over(told: Told, gathered: &Gathered) -> bool
     gathered.is_empty() && matches!(told, Told::Nothing)
 }
 
-/// What has happened next. It is waited for where it may be.
+/// The next thing that has happened. It waits for one only if it may.
 fn tell<P: Peers>(peers: &mut P, fresh: u64, may_wait: bool) -> Told
     ensures { P.does peers.old (Said fresh result) peers.new }
 {

@@ -5,8 +5,8 @@ use ledger_http::asked;
 use std::alloc::Global;
 use tenants::digest;
 
-/// The tenant of a whole message, by the first 16 bytes of the digest of its key. It is 0 where the
-/// message names no key, or memory is wanting to look for it.
+/// The tenant of a whole message, by the first 16 bytes of the digest of its key. It is 0 if the
+/// message names no key, or if memory lacks to look for it.
 pub(crate) fn tenant_of(alloc: Global, message: &[u8]) -> u128
     ensures { IsTenantOf message.now result }
 {

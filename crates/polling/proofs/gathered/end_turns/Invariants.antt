@@ -5,7 +5,7 @@ use Rattle.polling.specs.Standing.{turns_of}
 use Rattle.polling.specs.Seating.{ServesOwed, held_by}
 use Rattle.polling.proofs.gathered.end_turns.Given as goal
 
--- Whoever waits no more was told again.
+-- Clients that wait no longer keep their places.
 abbrev pub invariant-loop : goal.invariant-loop
 invariant-loop g l =
     ServesOwed (rules g.L.Ledgers.means g.C.Moments.gives g.H.Steward.renews g.H.Steward.waits g.P.Peers.does)

@@ -28,7 +28,7 @@ fn batch(alloc: Global, key: &str, length: usize) -> Result<Vec<u8>, Fail> {
     Ok(text)
 }
 
-// Behind how many things that were told the second of these was written to.
+// When the second of these was written to, by the number of things that had happened.
 fn second_of(peers: &Scripted, numbers: &[usize]) -> Option<u64> {
     let mut first = None;
     let mut second = None;
