@@ -90,10 +90,8 @@ impl<K: Clock, O: Operator> Sockets<'_, K, O> {
             match owner_of(event.token()) {
                 Owner::Door => self.door.knock(),
                 Owner::Operator => self.operator.rings(),
-                Owner::Client(number) => {
-                    let is_ending = event.is_read_closed() || event.is_error();
-                    self.guests.wake(number, is_ending);
-                }
+                Owner::Client(number) if event.is_error() => self.guests.reset(number),
+                Owner::Client(number) => self.guests.wake(number, event.is_read_closed()),
             }
         }
         self.guests.lingering.drop_due(self.time.now);
@@ -161,6 +159,9 @@ impl<K: Clock, O: Operator> Sockets<'_, K, O> {
 
     // What has happened and was not told.
     fn next(&mut self, fresh: u64) -> Told {
+        if let Some(number) = self.guests.next_reset() {
+            return Told::Late(number);
+        }
         if let Some(number) = self.guests.late(self.time.now) {
             return Told::Late(number);
         }
@@ -211,6 +212,21 @@ impl<K: Clock, O: Operator> Sockets<'_, K, O> {
         Told::Nothing
     }
 
+    // All time is over: clients that wait for their turns go.
+    fn told_in_vain(&mut self, may_wait: bool) -> Told {
+        self.is_letting_go = false;
+        if may_wait {
+            return Told::Nothing;
+        }
+        match self.guests.let_waiting_go() {
+            Some(number) => {
+                self.is_letting_go = true;
+                Told::Late(number)
+            }
+            None => Told::Nothing,
+        }
+    }
+
     // What has happened, where no more is to be begun or not.
     fn told_now(&mut self, fresh: u64, may_wait: bool) -> Told {
         let seen = self.seen();
@@ -223,7 +239,7 @@ impl<K: Clock, O: Operator> Sockets<'_, K, O> {
                 self.told_at_end(may_wait)
             }
             Phase::Closes => self.told_at_end(may_wait),
-            Phase::Ends => Told::Nothing,
+            Phase::Ends => self.told_in_vain(may_wait),
         }
     }
 
@@ -266,7 +282,10 @@ impl<K: Clock, O: Operator> Peers for Sockets<'_, K, O> {
     // Who asks for another turn is told behind the next look, and is waited for by nobody once it
     // was looked often enough.
     fn has_more(&self) -> bool {
-        self.guests.has_turns() || self.looks_again()
+        self.guests.has_turns()
+            || self.guests.is_anybody_reset()
+            || self.is_letting_go
+            || self.looks_again()
     }
 
     fn shared(&self, messages: u64) {
