@@ -20,7 +20,7 @@ returns-then-replies-most-clause-replies g c =
           (then_owed
           (none_owed
           (chosen_owed c.args.gathered.now.ring takes.new.self.ring takes.result takes.ensures))
-          (beside (turns_of left) answers.replies.serves) refl);
+          (beside (turns_of left) answers.replies.serves) (omega arith));
       few = answers.replies.few;
     }
 
@@ -34,12 +34,12 @@ returns-clause-replies g c =
     record {
       serves =
           turns_as (ap numbers_of (sym c.end_turns.ensures.none))
-          (then_owed
+          (then_owed {before = c.answer_chosen-replies.result}
           (turns_as (ap (λ (order : Order). numbers_of order.waiting) (sym answers.same))
           (then_owed
           (none_owed
           (chosen_owed c.args.gathered.now.ring takes.new.self.ring takes.result takes.ensures))
-          (beside (turns_of left) answers.replies.serves) refl))
+          (beside (turns_of left) answers.replies.serves) (omega arith)))
           (owed_for c.end_turns.ensures.owed (λ any. omega (arith, few, all)))
           (omega arith));
       few = few;

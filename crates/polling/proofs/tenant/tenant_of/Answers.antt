@@ -12,6 +12,6 @@ returns-in-Some c = inr (
     c.in-Ok.ensures.told,
     c.from_be_bytes.ensures
         ∙ ap (λ (bytes : List ℕ). from_be_bytes w128 bytes)
-        ((c.in-Some.ensures tt).cases.same ∙ ap (λ (bytes : List ℕ). take 16 bytes) c.digest.ensures),
+        (c.in-Some.ensures.cases.same ∙ ap (λ (bytes : List ℕ). take 16 bytes) c.digest.ensures),
   ),
 )

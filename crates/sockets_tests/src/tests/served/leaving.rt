@@ -59,7 +59,7 @@ const LEFT_ALONE: [Step; 20] = [
 
 // A client that leaves with a reply unread resets its connection. It goes at once, though a message
 // of it has had no turn.
-const RESET: [Step; 14] = [
+const RESET: [Step; 15] = [
     Connects(0),
     Connects(7),
     Tells(0, 3, Told::Joined),
@@ -71,9 +71,10 @@ const RESET: [Step; 14] = [
     Writes(1, 3, Written::Took(3)),
     Again(0),
     Leaves,
-    Tells(2, 3, Told::Ready(0)),
     Tells(2, 3, Told::Late(1)),
-    Counts(2, 2, 2, 0),
+    Closes(1),
+    Tells(2, 3, Told::Ready(0)),
+    Counts(1, 2, 2, 0),
 ];
 
 // The end of its input is no reset: what a client has sent is answered.
