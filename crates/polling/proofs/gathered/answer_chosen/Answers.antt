@@ -1,4 +1,4 @@
-use Rattle.std.proofs.Common.{◌≡◌, ◌+◌, ◌-◌, refl, arith}
+use Rattle.std.proofs.Common.{◌≡◌, ◌-◌, refl, arith}
 use Rattle.polling.specs.Standing.{turns_of}
 use Rattle.polling.proofs.AllLemmas.{beside, owed_for, then_owed, turns_were}
 use Rattle.polling.proofs.gathered.answer_chosen.Goals as goal

@@ -1,4 +1,4 @@
-use Rattle.std.proofs.Common.{◌≡◌, refl, sym, ap, ℕ, List, arith}
+use Rattle.std.proofs.Common.{sym, ap, arith}
 use Rattle.polling.specs.Ring.{Order, numbers_of}
 use Rattle.polling.specs.Standing.{turns_of}
 use Rattle.polling.proofs.AllLemmas.{beside, none_owed, owed_for, then_owed, turns_as}

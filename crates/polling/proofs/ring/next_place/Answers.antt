@@ -1,4 +1,4 @@
-use Rattle.std.proofs.Common.{◌≡◌, ◌<◌, ◌∙◌, length, sym, arith}
+use Rattle.std.proofs.Common.{◌<◌, ◌∙◌, length, sym, arith}
 use Rattle.std.proofs.lemmas.Option.{slice_get-get_or}
 use Rattle.polling.proofs.RingLemmas.{next_is_other, next_stays, next_of_all}
 use Rattle.polling.proofs.ring.next_place.Goals.{then-is_before, else-is_before}

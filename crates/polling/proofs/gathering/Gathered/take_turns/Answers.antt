@@ -1,5 +1,4 @@
-use Rattle.std.proofs.Common.{◌≤◌, length, ap, subst, List, ℕ, arith}
-use Rattle.polling.specs.Ring.{Order}
+use Rattle.std.proofs.Common.{arith}
 use Rattle.polling.proofs.ChosenLemmas.{takes_none, takes_more, few_added}
 use Rattle.polling.proofs.gathering.Gathered.take_turns.Goals as goal
 
