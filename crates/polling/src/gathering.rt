@@ -21,6 +21,10 @@ pub(crate) const MOST_TURNS: usize = 32;
 /// The most bytes of messages that are answered at once, unless one alone has more.
 const MOST_BYTES: usize = 128 * 1024;
 
+/// A message with more bytes than this is not added to others that are answered at once: they would
+/// wait for it.
+const MOST_ADDED: usize = 32 * 1024;
+
 /// How many clients are served alone behind a round that was not kept.
 const ALONE: u64 = 32;
 
@@ -251,7 +255,7 @@ impl Gathered {
             let room = if taken == 0 {
                 usize::MAX
             } else {
-                MOST_BYTES.saturating_sub(bytes)
+                MOST_BYTES.saturating_sub(bytes).min(MOST_ADDED)
             };
             let Some(waiting) = self.ring.turn(room) else {
                 return chosen;
