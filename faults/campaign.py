@@ -31,6 +31,7 @@ import given
 import limits
 import little
 import many
+import neighbours
 import parted
 import paused
 import queries
@@ -57,6 +58,7 @@ TRIALS = {
     "between": rounds.killed_between,
     "crowd": rounds.killed_crowd,
     "limits": limits.limits,
+    "neighbours": neighbours.neighbours,
     "reopened": reopened.reopened,
     "due": due.due,
     "little": little.little,

@@ -58,6 +58,10 @@ impl Peers for Listening<'_> {
         self.sockets.told(fresh)
     }
 
+    fn told_at_once(&mut self, fresh: u64) -> Told {
+        self.sockets.told_at_once(fresh)
+    }
+
     fn has_more(&self) -> bool {
         self.sockets.has_more()
     }

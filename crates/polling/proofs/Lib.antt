@@ -1,6 +1,5 @@
 pub mod StandLemmas
 pub mod GoingLemmas
-pub mod KindLemmas
 pub mod WrittenLemmas
 pub mod FinishLemmas
 pub mod OneLemmas
@@ -21,3 +20,5 @@ pub mod RoundLemmas
 pub mod LostLemmas
 pub mod CopyLemmas
 pub mod RestLemmas
+pub mod RingLemmas
+pub mod ChosenLemmas

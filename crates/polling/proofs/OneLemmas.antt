@@ -12,9 +12,9 @@ use Rattle.clients.specs.Deeds as deed
 use Rattle.clients.proofs.ClientLemmas.{at_other, at_own, by_client}
 use Rattle.service.specs.Seen.{Whole}
 use Rattle.polling.specs.Peers.{Gave, Ended, Took, Stirred, Hands}
-use Rattle.polling.specs.Standing.{Standing, Owed, begun, rested, leaving, with_standing, stands_after, MayGo, Lost_piece}
+use Rattle.polling.specs.Standing.{Standing, Owed, begun, rested, with_standing, stands_after, MayGo, Lost_piece}
 use Rattle.service.specs.Openings.{run_meaning, IsSettled}
-use Rattle.polling.specs.Serving.{Hall, hall, Terms, Settles, IsDueOf, gone_with, Occurs, Did, Stirs, Goes, Again, Proceeds, Begin, Then}
+use Rattle.polling.specs.Serving.{Hall, hall, Terms, Settles, IsDueOf, Occurs, Did, Stirs, Goes, Again, Proceeds, Begin, Then}
 use Rattle.polling.specs.Seating.{with_talk, ServesOne, SeatsNow, HasMoved, gone_by, stands_by, replies_in}
 use Rattle.polling.specs.declared.step.Step.{Step}
 use Rattle.polling.specs.declared.step.Step.TheVariants as step

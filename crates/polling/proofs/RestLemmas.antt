@@ -1,5 +1,5 @@
 -- What happens of a round beside the replies.
-use Rattle.std.proofs.Common.{refl, sym, subst, ℕ, List, [], Option}
+use Rattle.std.proofs.Common.{refl, sym, subst, ℕ, List, Option}
 use Rattle.clients.specs.Talk.{Talk}
 use Rattle.clients.specs.Deeds.{Room}
 use Rattle.polling.specs.Serving.{Terms, Rests, Passes, AreAsBefore, AreGiven}

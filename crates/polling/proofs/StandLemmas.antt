@@ -7,7 +7,7 @@ use Rattle.clients.specs.Deeds.{Act, client_of}
 use Rattle.clients.specs.Talk.{Talk}
 use Rattle.clients.proofs.ClientLemmas.{at_other, at_own, by_client}
 use Rattle.polling.specs.Peers.{Said}
-use Rattle.polling.specs.Standing.{Standing, Away, New, Awaited, Owed, Begun, Kept, Overdue, Leaving}
+use Rattle.polling.specs.Standing.{Standing, Away, New, Awaited, Owed, Begun, Kept, Overdue}
 use Rattle.polling.specs.Standing.{has_seat, greeted, woken, expired, begun, rested, asked}
 use Rattle.polling.specs.Standing.{with_standing, stands_behind, stands_after, StandsIn}
 use Rattle.polling.specs.Standing.{Debt, A_seat, A_turn, An_end, Owing, owing, turns_of, IsOwed, told_of}

@@ -8,3 +8,5 @@ pub mod Laws
 pub mod Courses
 pub mod Round
 pub mod Steps
+pub mod Ring
+pub mod Tenant

@@ -1,5 +1,5 @@
 -- What steps of serving ask for and leave.
-use Rattle.std.specs.Prelude.{◌≡◌, ◌≢◌, ◌≤◌, ◌⊎◌, ℕ, true, List, [], Option, Some, Contains, IfSome, length}
+use Rattle.std.specs.Prelude.{◌≡◌, ◌≢◌, ◌≤◌, ◌⊎◌, ◌++◌, ℕ, true, false, not, List, [], ◌∷◌, Option, Some, Contains, IfSome, filter, length}
 use Rattle.std.specs.BTreeMap.{BTreeMap}
 use Rattle.service.specs.declared.turns.Message.{Message}
 use Rattle.service.specs.Seen.{SeenAt}
@@ -13,11 +13,14 @@ use Rattle.polling.specs.Standing.{AreSomeOf}
 use Rattle.polling.specs.Seating.{Held, ServesAll, AreSame}
 use Rattle.polling.specs.Round.{AreGathered}
 use Rattle.polling.specs.Ending.{Ends, GivesTurns, NothingIsLeft}
+use Rattle.polling.specs.Ring.{Order, Turns, numbers_of}
+use Rattle.polling.specs.declared.gathering.Chosen.{Chosen}
 use Rattle.polling.specs.declared.gathering.Kind.{Kind}
 use Rattle.polling.specs.declared.gathering.Place.{Place}
 use Rattle.polling.specs.declared.gathering.Place.TheVariants as place
 use Rattle.polling.specs.declared.peers.Told.{Told}
 use Rattle.polling.specs.declared.peers.Told.TheVariants as telling
+use Rattle.polling.specs.declared.ring.Waiting.{Waiting}
 use Rattle.polling.specs.declared.round.Member.{Member}
 
 -- all that is there of a reply is written, and this is left to be read of it
@@ -55,6 +58,29 @@ pub record GathersNext (old new : List ℕ) (number : ℕ) (placed : Place) : Ty
   pub kept : AreSomeOf old new
   pub gathered : placed ≡ place.Gathered → Contains new number
 
+-- the client of one more message that has its turn: a batch, or another one
+pub record IsAdded (waiting : Waiting) (old new : Chosen) : Type 0 where
+  pub batch :
+      waiting.is_batch ≡ true
+      → (new.others.items ≡ old.others.items)
+      × (new.batches.items ≡ old.batches.items ++ waiting.number ∷ [])
+  pub other :
+      waiting.is_batch ≡ false
+      → (new.others.items ≡ old.others.items ++ waiting.number ∷ [])
+      × (new.batches.items ≡ old.batches.items)
+
+-- messages have their turns, and these are their clients: those whose messages are no batches, and
+-- the others. A client that waited is one of them, or waits still
+pub record TakesTurns (old new : Order) (chosen : Chosen) : Type 0 where
+  pub given : List Waiting
+  pub turns : Turns old given new
+  pub others :
+      chosen.others.items ≡ numbers_of (filter (λ (one : Waiting). not one.is_batch) given)
+  pub batches : chosen.batches.items ≡ numbers_of (filter (λ (one : Waiting). one.is_batch) given)
+  pub owed :
+      AreSomeOf (numbers_of old.waiting)
+      (chosen.others.items ++ (chosen.batches.items ++ numbers_of new.waiting))
+
 -- a client's next message, where it was copied; the client is as it was
 pub record CopiesOne {A : Type 0} (old new : Talk) (result : Option A) (Copied : A → Type 0) :
     Type 0 where
@@ -86,8 +112,8 @@ pub record WritesRest {S C P : Type 0} (r : Terms (SeenAt S) C P) (clients : BTr
       Ends (SeenAt S) C P r (NothingIsLeft clients) (old moments) (new moments) 0
 
 -- peers told something, or that nothing more had happened where somebody was gathered
-pub record TellsMore {P : Type 0} (does : P → Doing → P → Type 0) (next : ℕ) (gathered : List ℕ)
-    (old : P) : Type 0 where
+pub record TellsMore {P : Type 0} (does : P → Doing → P → Type 0) (next : ℕ)
+    (gathered : List Waiting) (old : P) : Type 0 where
   pub told : Told
   pub peers : P
   pub said : does old (Said next told) peers

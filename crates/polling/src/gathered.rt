@@ -1,12 +1,13 @@
 //! Serving those who are gathered.
-ghost use Rattle.std.specs.Prelude.{◌≡◌, ℕ, [], ◌∷◌};
+ghost use Rattle.std.specs.Prelude.{◌≡◌, ⊤, ℕ, [], ◌∷◌, ◌++◌};
 ghost use Rattle.service.specs.Seen.{Whole};
 ghost use Rattle.polling.specs.Serving.{rules};
 ghost use Rattle.polling.specs.Standing.{A_turn, owing, turns_of};
 ghost use Rattle.polling.specs.Seating.{ServesOwed, ServesEach, held, held_by, seats_in};
+ghost use Rattle.polling.specs.Ring.{numbers_of};
 ghost use Rattle.polling.specs.Steps.{RepliesUpTo};
 
-use crate::gathering::Gathered;
+use crate::gathering::{Chosen, Gathered};
 use crate::seats::Seats;
 use crate::serving::follow;
 use crate::sharing::share_round;
@@ -106,7 +107,7 @@ fn share<L: Rounds, H: Steward<L>, C: Moments, P: Peers>(
         ServesEach (rules L.means C.gives H.renews H.waits P.does)
         (held (Whole ledgers.old) moments.old peers (seats_in clients.old) next)
         (held (Whole ledgers.new) moments.new peers (seats_in clients.new) next) result) }
-    ensures same { gathered.new.numbers ≡ gathered.old.numbers }
+    ensures same { gathered.new.ring ≡ gathered.old.ring }
 {
     if numbers.len() < 2 {
         return 0;
@@ -118,8 +119,70 @@ fn share<L: Rounds, H: Steward<L>, C: Moments, P: Peers>(
     replies
 }
 
-/// Serves those who are gathered where nobody more is to be waited for, with so many replies at
-/// most, and says how many there were.
+/// Answers the messages that have their turns, with `most` replies at most: those that are no
+/// batches one by one, and then the batches in one round. Returns how many replies there were.
+fn answer_chosen<L: Rounds, H: Steward<L>, C: Moments, P: Peers>(
+    alloc: Global,
+    peers: &mut P,
+    seats: &mut Seats,
+    ledgers: &mut L,
+    moments: &mut C,
+    piece: &mut [u8],
+    gathered: &mut Gathered,
+    chosen: &Chosen,
+    most: u64,
+) -> u64
+    ensures replies { RepliesUpTo most result
+        (ServesOwed (rules L.means C.gives H.renews H.waits P.does) (result ≡ most)
+        (turns_of chosen.now.others.items ++ turns_of chosen.now.batches.items) []
+        (held_by ledgers.old moments.old peers.old seats.old)
+        (held_by ledgers.new moments.new peers.new seats.new) result) }
+    ensures same { gathered.new.ring ≡ gathered.old.ring }
+{
+    let others = chosen.others.as_slice();
+    let answered = finish_each::<L, H, C, P>(
+        alloc, peers, seats, others, ledgers, moments, piece, most,
+    );
+    let left = most - answered;
+    let batches = chosen.batches.as_slice();
+    let clients = &mut seats.clients;
+    let shared = share::<L, H, C, P>(
+        alloc, peers, clients, batches, ledgers, moments, gathered, left,
+    );
+    if shared > 0 {
+        peers.shared(shared);
+    }
+    let room = left - shared;
+    let more = finish_each::<L, H, C, P>(
+        alloc, peers, seats, batches, ledgers, moments, piece, room,
+    );
+    answered + shared + more
+}
+
+/// Ends the turns: each client that waits keeps its place, and nothing is answered.
+fn end_turns<L: Rounds, H: Steward<L>, C: Moments, P: Peers>(
+    alloc: Global,
+    peers: &mut P,
+    seats: &mut Seats,
+    ledgers: &mut L,
+    moments: &mut C,
+    piece: &mut [u8],
+    gathered: &mut Gathered,
+)
+    ensures owed { ServesOwed (rules L.means C.gives H.renews H.waits P.does) ⊤
+        (turns_of (numbers_of gathered.old.ring.waiting)) []
+        (held_by ledgers.old moments.old peers.old seats.old)
+        (held_by ledgers.new moments.new peers.new seats.new) 0 }
+    ensures none { gathered.new.ring.waiting ≡ [] }
+{
+    while !gathered.is_empty() {
+        let number = gathered.let_go();
+        finish_one::<L, H, C, P>(alloc, peers, seats, number, ledgers, moments, piece, 0);
+    }
+}
+
+/// Gives turns to messages that wait if no further ones are expected at once, with `most` replies
+/// at most. Returns how many replies there were.
 pub(crate) fn serve_due<L: Rounds, H: Steward<L>, C: Moments, P: Peers>(
     alloc: Global,
     peers: &mut P,
@@ -132,29 +195,22 @@ pub(crate) fn serve_due<L: Rounds, H: Steward<L>, C: Moments, P: Peers>(
 ) -> u64
     ensures replies { RepliesUpTo most result
         (ServesOwed (rules L.means C.gives H.renews H.waits P.does) (result ≡ most)
-        (turns_of gathered.old.numbers.items) (turns_of gathered.new.numbers.items)
+        (turns_of (numbers_of gathered.old.ring.waiting))
+        (turns_of (numbers_of gathered.new.ring.waiting))
         (held_by ledgers.old moments.old peers.old seats.old)
         (held_by ledgers.new moments.new peers.new seats.new) result) }
-    ensures all { result ≡ most → gathered.new.numbers.items ≡ [] }
+    ensures all { result ≡ most → gathered.new.ring.waiting ≡ [] }
 {
-    let has_more = peers.has_more();
-    if !has_more {
-        gathered.end_turn();
-    }
-    if !gathered.is_due(has_more, most) {
+    if !gathered.is_due(peers.has_more(), most) {
         return 0;
     }
-    let numbers = gathered.take(alloc);
-    let clients = &mut seats.clients;
-    let shared = share::<L, H, C, P>(
-        alloc, peers, clients, &numbers, ledgers, moments, gathered, most,
+    let chosen = gathered.take_turns();
+    let replies = answer_chosen::<L, H, C, P>(
+        alloc, peers, seats, ledgers, moments, piece, gathered, &chosen, most,
     );
-    if shared > 0 {
-        peers.shared(shared);
+    if replies < most {
+        return replies;
     }
-    let room = most - shared;
-    let more = finish_each::<L, H, C, P>(
-        alloc, peers, seats, &numbers, ledgers, moments, piece, room,
-    );
-    shared + more
+    end_turns::<L, H, C, P>(alloc, peers, seats, ledgers, moments, piece, gathered);
+    replies
 }

@@ -1,6 +1,7 @@
 //! Laws of serving many clients. The functions do nothing; their contracts are the laws.
 ghost use Rattle.polling.specs.Courses.{IsCourse, CoursesServeEachAlone, BooksOnlyWhatIsAsked, MomentsRise};
 ghost use Rattle.polling.specs.Laws.{EachIsServed, AreLives, BeginsEmpty, GivesOn, ServingGoesOn, EndsTold};
+ghost use Rattle.polling.specs.Ring.{TurnsGoRound};
 ghost use Rattle.polling.specs.Serving.{rules};
 
 use crate::{Peers, Steward};
@@ -61,4 +62,10 @@ pub fn serving_goes_on<L: Ledgers, H: Steward<L>, C: Moments, P: Peers>()
     ensures served { ServingGoesOn (rules L.means C.gives H.renews H.waits P.does) }
     ensures turns { GivesOn (rules L.means C.gives H.renews H.waits P.does) }
     ensures told { EndsTold (rules L.means C.gives H.renews H.waits P.does) }
+{}
+
+/// After a turn of one tenant, each other tenant that waits has a turn before that one has its
+/// next. This holds for any number of clients of each, whichever messages arrive meanwhile.
+pub fn turns_go_round()
+    ensures { TurnsGoRound }
 {}

@@ -12,7 +12,7 @@ pub enum Told {
     Joined,
     /// A client may have sent something, or may take something, or asked for another turn.
     Ready(u64),
-    /// A client has had its time.
+    /// A client has had its time, or its connection was reset.
     Late(u64),
     /// Nothing more for now.
     Nothing,
@@ -50,6 +50,13 @@ pub trait Peers {
     /// The next thing that has happened. A new client gets the number `fresh`.
     fn told(&mut self, fresh: u64) -> Told
         ensures { does self.old (Said fresh result) self.new };
+
+    /// The same while messages wait for their turns: this returns at once.
+    fn told_at_once(&mut self, fresh: u64) -> Told
+        ensures { does self.old (Said fresh result) self.new }
+    {
+        self.told(fresh)
+    }
 
     /// Whether something more has happened that `told` tells without waiting.
     fn has_more(&self) -> bool;

@@ -1,5 +1,7 @@
 //! Serving all who are ready.
 ghost use Rattle.std.specs.Prelude.{◌≡◌, ◌≢◌, ◌⊎◌, ◌<◌, false, [], ◌∷◌, ◌++◌, IsTrue};
+ghost use Rattle.polling.specs.Peers.{Said};
+ghost use Rattle.polling.specs.Ring.{numbers_of};
 ghost use Rattle.polling.specs.Serving.{rules};
 ghost use Rattle.polling.specs.Standing.{A_turn, An_end, owing, told_of, turns_of};
 ghost use Rattle.polling.specs.Seating.{IsFollowed, ServesNext, ServesOwed, ServesTold, seats_in, held_by};
@@ -132,8 +134,8 @@ fn serve_told<L: Rounds, H: Steward<L>, C: Moments, P: Peers>(
 ) -> u64
     ensures { RepliesUpTo 1 result
         (ServesTold (rules L.means C.gives H.renews H.waits P.does) told
-        (told_of seats.old.next told ++ turns_of gathered.old.numbers.items)
-        (turns_of gathered.new.numbers.items)
+        (told_of seats.old.next told ++ turns_of (numbers_of gathered.old.ring.waiting))
+        (turns_of (numbers_of gathered.new.ring.waiting))
         (held_by ledgers.old moments.old peers.old seats.old)
         (held_by ledgers.new moments.new peers.new seats.new) result) }
 {
@@ -142,7 +144,12 @@ fn serve_told<L: Rounds, H: Steward<L>, C: Moments, P: Peers>(
             join::<L, H, C, P>(alloc, peers, seats);
             0
         }
-        Told::Ready(number) => match gathered.place::<L, H>(&mut seats.clients, number, steward) {
+        Told::Ready(number) => match gathered.place::<L, H>(
+            alloc,
+            &mut seats.clients,
+            number,
+            steward,
+        ) {
             Place::Gathered => 0,
             Place::Later => {
                 peers.again(number);
@@ -165,10 +172,21 @@ fn serve_told<L: Rounds, H: Steward<L>, C: Moments, P: Peers>(
 
 /// Whether nothing had happened, and nobody is gathered.
 fn is_over(told: Told, gathered: &Gathered) -> bool
-    ensures over { IsTrue result → (told ≡ Nothing) × (gathered.now.numbers.items ≡ []) }
-    ensures more { result ≡ false → (told ≢ Nothing) ⊎ (gathered.now.numbers.items ≢ []) }
+    ensures over { IsTrue result → (told ≡ Nothing) × (gathered.now.ring.waiting ≡ []) }
+    ensures more { result ≡ false → (told ≢ Nothing) ⊎ (gathered.now.ring.waiting ≢ []) }
 {
     gathered.is_empty() && matches!(told, Told::Nothing)
+}
+
+/// The next thing that has happened. It waits for one only if it may.
+fn tell<P: Peers>(peers: &mut P, fresh: u64, may_wait: bool) -> Told
+    ensures { P.does peers.old (Said fresh result) peers.new }
+{
+    if may_wait {
+        peers.told(fresh)
+    } else {
+        peers.told_at_once(fresh)
+    }
 }
 
 /// Does what the next thing that has happened asks for, and serves those who are gathered where
@@ -191,16 +209,17 @@ fn serve_next<L: Rounds, H: Steward<L>, C: Moments, P: Peers>(
     ensures turns { RepliesUpTo most (replies_of result)
         (ServesOwed (rules L.means C.gives H.renews H.waits P.does)
         (replies_of result ≡ most)
-        (turns_of gathered.old.numbers.items) (turns_of gathered.new.numbers.items)
+        (turns_of (numbers_of gathered.old.ring.waiting))
+        (turns_of (numbers_of gathered.new.ring.waiting))
         (held_by ledgers.old moments.old peers.old seats.old)
         (held_by ledgers.new moments.new peers.new seats.new) (replies_of result)) }
     ensures all { (result ≡ Done.Nothing) ⊎ (replies_of result ≡ most) →
-        gathered.new.numbers.items ≡ [] }
+        gathered.new.ring.waiting ≡ [] }
     ensures more { result ≢ Done.Nothing →
-        TellsMore P.does seats.old.next gathered.old.numbers.items peers.old }
+        TellsMore P.does seats.old.next gathered.old.ring.waiting peers.old }
 {
     steward.attend(ledgers, moments);
-    let told = peers.told(seats.next);
+    let told = tell(peers, seats.next, gathered.is_empty());
     if is_over(told, gathered) {
         return Done::Nothing;
     }

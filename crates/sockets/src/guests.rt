@@ -21,6 +21,8 @@ pub(crate) struct Guests {
     pub(crate) counts: Counts,
     /// Those who are ready, each once.
     queue: VecDeque<u64>,
+    /// Clients whose connections were reset, until the loop knows it.
+    reset: VecDeque<u64>,
     /// How many of them stood there when it was last waited.
     left: usize,
     /// Whether all that had happened was seen when it was last waited. Else somebody may be ready
@@ -42,6 +44,7 @@ impl Guests {
             lingering: Lingering::new(alloc)?,
             counts: Counts::new(),
             queue: VecDeque::new(alloc),
+            reset: VecDeque::new(alloc),
             left: 0,
             has_seen_all: false,
             is_judging: false,
@@ -72,6 +75,7 @@ impl Guests {
     ) -> Result<(), AllocError> {
         let all = self.peers.len().saturating_add(self.lingering.len());
         self.queue.reserve(all.saturating_add(1))?;
+        self.reset.reserve(all.saturating_add(1))?;
         let stage = Stage::idle(&self.limits, now);
         self.stages.enter(number, stage)?;
         match self.peers.insert(number, Peer::new(stream, stage)) {
@@ -98,6 +102,40 @@ impl Guests {
             peer.is_ending = peer.is_ending || is_ending;
         }
         self.again(number);
+    }
+
+    /// A connection was reset. So nothing more is done for its client, whatever it has sent.
+    pub(crate) fn reset(&mut self, number: u64) {
+        match self.peers.get_mut(&number) {
+            Some(peer) if !peer.is_over && !self.is_closing => {
+                peer.is_over = true;
+                self.stages.leave(number, peer.stage);
+                let _ = self.reset.push_back(number);
+            }
+            _ => self.wake(number, true),
+        }
+    }
+
+    /// A client that still waits for its turn, if any. It goes, since all time is over.
+    pub(crate) fn let_waiting_go(&mut self) -> Option<u64> {
+        for (number, peer) in self.peers.iter_mut() {
+            if peer.is_told && !peer.is_over {
+                peer.is_over = true;
+                self.stages.leave(*number, peer.stage);
+                return Some(*number);
+            }
+        }
+        None
+    }
+
+    /// A client whose connection was reset, which the loop does not know yet.
+    pub(crate) fn next_reset(&mut self) -> Option<u64> {
+        self.reset.pop_front()
+    }
+
+    /// Whether there is such a client.
+    pub(crate) fn is_anybody_reset(&self) -> bool {
+        !self.reset.is_empty()
     }
 
     /// A client stands in the queue, behind all who do.

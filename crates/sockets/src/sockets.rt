@@ -22,10 +22,10 @@ pub(crate) const EVENTS: usize = 1_024;
 /// Where descriptors or memory are wanting nobody is accepted for a moment, which is told once, and
 /// once when all who waited are accepted again.
 ///
-/// From when the operator asks to stop nobody is accepted, and nobody is late. Who had sent
-/// something by then is told as ready until nothing is left to be done for it, and so is who has
-/// not taken all of a reply; for a second at most. Behind that `told` tells `Nothing` at once, for
-/// ever.
+/// Once the operator asks to stop, no further connection is accepted, and no client is late. For a
+/// second at most, `told` names each client that had sent something by then, until nothing is left
+/// to be done for it. It also names each that has not taken all of a reply. After that second it
+/// names each client that waits for its turn as late, and then returns `Nothing` at once, for ever.
 #[derive(Drop)]
 pub struct Sockets<'a, K: Clock, O: Operator> {
     pub(crate) clock: &'a K,
@@ -39,6 +39,8 @@ pub struct Sockets<'a, K: Clock, O: Operator> {
     pub(crate) guests: Guests,
     // How often it is looked yet who else is ready before it is waited.
     pub(crate) looks: u8,
+    // Whether all time is over, and clients that wait for their turns are being let go.
+    pub(crate) is_letting_go: bool,
 }
 
 impl<'a, K: Clock, O: Operator> Sockets<'a, K, O> {
@@ -64,6 +66,7 @@ impl<'a, K: Clock, O: Operator> Sockets<'a, K, O> {
             door,
             guests: Guests::new(rt.alloc(), limits)?,
             looks: 0,
+            is_letting_go: false,
         })
     }
 

@@ -90,19 +90,21 @@ impl<K: Clock, O: Operator> Sockets<'_, K, O> {
             match owner_of(event.token()) {
                 Owner::Door => self.door.knock(),
                 Owner::Operator => self.operator.rings(),
-                Owner::Client(number) => {
-                    let is_ending = event.is_read_closed() || event.is_error();
-                    self.guests.wake(number, is_ending);
-                }
+                Owner::Client(number) if event.is_error() => self.guests.reset(number),
+                Owner::Client(number) => self.guests.wake(number, event.is_read_closed()),
             }
         }
         self.guests.lingering.drop_due(self.time.now);
         self.guests.begin_turns(left > 0);
     }
 
-    // Waits until something happens. All to whom it did have their turn.
-    fn wait(&mut self) {
-        let most = self.patience();
+    // Waits until something happens, where it may be waited. All to whom it did have their turn.
+    fn wait(&mut self, may_wait: bool) {
+        let most = if may_wait {
+            self.patience()
+        } else {
+            Duration::ZERO
+        };
         self.look(most);
         self.door.begin_turns(self.time.now);
     }
@@ -157,6 +159,9 @@ impl<K: Clock, O: Operator> Sockets<'_, K, O> {
 
     // What has happened and was not told.
     fn next(&mut self, fresh: u64) -> Told {
+        if let Some(number) = self.guests.next_reset() {
+            return Told::Late(number);
+        }
         if let Some(number) = self.guests.late(self.time.now) {
             return Told::Late(number);
         }
@@ -191,10 +196,13 @@ impl<K: Clock, O: Operator> Sockets<'_, K, O> {
     }
 
     // Who is ready, where no more is to be begun; or that nobody is left to be served.
-    fn told_at_end(&mut self) -> Told {
+    fn told_at_end(&mut self, may_wait: bool) -> Told {
         for _ in 0..u64::MAX {
             if let Some(number) = self.guests.next_at_end() {
                 return Told::Ready(number);
+            }
+            if !may_wait {
+                return Told::Nothing;
             }
             if !self.waits_for_written() {
                 break;
@@ -204,19 +212,34 @@ impl<K: Clock, O: Operator> Sockets<'_, K, O> {
         Told::Nothing
     }
 
+    // All time is over: clients that wait for their turns go.
+    fn told_in_vain(&mut self, may_wait: bool) -> Told {
+        self.is_letting_go = false;
+        if may_wait {
+            return Told::Nothing;
+        }
+        match self.guests.let_waiting_go() {
+            Some(number) => {
+                self.is_letting_go = true;
+                Told::Late(number)
+            }
+            None => Told::Nothing,
+        }
+    }
+
     // What has happened, where no more is to be begun or not.
-    fn told_now(&mut self, fresh: u64) -> Told {
+    fn told_now(&mut self, fresh: u64, may_wait: bool) -> Told {
         let seen = self.seen();
         self.operator.turned(seen.saturating_sub(self.time.seen));
         self.time.turned(seen);
         match self.closing.learns(self.operator.is_stopping(), seen) {
-            Phase::Serves => self.told_next(fresh),
+            Phase::Serves => self.told_next(fresh, may_wait),
             Phase::Begins => {
                 self.look_once_more();
-                self.told_at_end()
+                self.told_at_end(may_wait)
             }
-            Phase::Closes => self.told_at_end(),
-            Phase::Ends => Told::Nothing,
+            Phase::Closes => self.told_at_end(may_wait),
+            Phase::Ends => self.told_in_vain(may_wait),
         }
     }
 
@@ -226,7 +249,7 @@ impl<K: Clock, O: Operator> Sockets<'_, K, O> {
     }
 
     // What has happened since it was told last, or what happens now.
-    fn told_next(&mut self, fresh: u64) -> Told {
+    fn told_next(&mut self, fresh: u64, may_wait: bool) -> Told {
         let had_turns = self.guests.has_turns();
         let told = self.next(fresh);
         // Where turns were left `has_more` has said that it is not waited.
@@ -237,7 +260,7 @@ impl<K: Clock, O: Operator> Sockets<'_, K, O> {
             self.looks = self.looks.saturating_sub(1);
             self.look(Duration::ZERO);
         } else {
-            self.wait();
+            self.wait(may_wait);
             self.looks = LOOKS;
         }
         self.next(fresh)
@@ -249,13 +272,20 @@ impl<K: Clock, O: Operator> Peers for Sockets<'_, K, O> {
     ghost does = { λ _ _ _. ⊤ };
 
     fn told(&mut self, fresh: u64) -> Told {
-        self.told_now(fresh)
+        self.told_now(fresh, true)
+    }
+
+    fn told_at_once(&mut self, fresh: u64) -> Told {
+        self.told_now(fresh, false)
     }
 
     // Who asks for another turn is told behind the next look, and is waited for by nobody once it
     // was looked often enough.
     fn has_more(&self) -> bool {
-        self.guests.has_turns() || self.looks_again()
+        self.guests.has_turns()
+            || self.guests.is_anybody_reset()
+            || self.is_letting_go
+            || self.looks_again()
     }
 
     fn shared(&self, messages: u64) {

@@ -1,6 +1,7 @@
 //! Clients by a script of readiness, each of whom has a turn.
 
 mod failing;
+mod neighbours;
 mod rounds;
 pub(crate) mod scripted;
 mod serving;

@@ -1,5 +1,6 @@
 use Rattle.std.proofs.Common.{◌≡◌, ◌-◌, refl, subst, arith}
 use Rattle.polling.specs.Peers.{Said}
+use Rattle.polling.specs.Ring.{numbers_of}
 use Rattle.polling.specs.Standing.{turns_of}
 use Rattle.polling.specs.Seating.{held_by}
 use Rattle.polling.specs.declared.peers.Told.{Told}
@@ -17,12 +18,12 @@ returns-then-is_over-clause-does g c = record {
   said =
       subst
       (λ (told : Told).
-      g.P.Peers.does c.args.peers.now (Said c.args.seats.now.next told) c.told-told.new.self)
-      (c.if-is_over.ensures.over refl).0 c.told-told.ensures;
+      g.P.Peers.does c.args.peers.now (Said c.args.seats.now.next told) c.tell-told.new.peers)
+      (c.if-is_over.ensures.over refl).0 c.tell-told.ensures;
   same =
       refl {
       a =
-      held_by c.attend.new.ledgers c.attend.new.moments c.told-told.new.self
+      held_by c.attend.new.ledgers c.attend.new.moments c.tell-told.new.peers
       c.args.seats.now
       };
 }
@@ -33,10 +34,10 @@ returns-then-is_over-clause-turns g c = record {
       let said =
       subst
       (λ (told : Told).
-      g.P.Peers.does c.args.peers.now (Said c.args.seats.now.next told) c.told-told.new.self)
-      (c.if-is_over.ensures.over refl).0 c.told-told.ensures in
+      g.P.Peers.does c.args.peers.now (Said c.args.seats.now.next told) c.tell-told.new.peers)
+      (c.if-is_over.ensures.over refl).0 c.tell-told.ensures in
       then_owed
-      (beside (turns_of c.args.gathered.now.numbers.items)
+      (beside (turns_of (numbers_of c.args.gathered.now.ring.waiting))
       (owed_for (attended_all g.L.Ledgers.means g.C.Moments.gives g.H.Steward.renews g.H.Steward.waits
       g.P.Peers.does c.attend.ensures) (λ never. absurd never)))
       (tells_owed Nothing said) refl;
@@ -50,13 +51,13 @@ returns-then-is_over-clause-more g c served = absurd (served refl)
 pub returns-clause-does : goal.returns-clause-does
 returns-clause-does g c = record {
   before = held_by c.attend.new.ledgers c.attend.new.moments c.args.peers.now c.args.seats.now;
-  told = c.told-told.result;
-  peers = c.told-told.new.self;
+  told = c.tell-told.result;
+  peers = c.tell-told.new.peers;
   first = serves_all (attended_all g.L.Ledgers.means g.C.Moments.gives g.H.Steward.renews g.H.Steward.waits
       g.P.Peers.does c.attend.ensures);
-  said = c.told-told.ensures;
+  said = c.tell-told.ensures;
   served =
-      told_then c.told-told.result c.serve_told-replies.ensures.serves
+      told_then c.tell-told.result c.serve_told-replies.ensures.serves
       (serves_all c.serve_due-more.ensures.replies.serves) refl;
 }
 
@@ -68,11 +69,11 @@ returns-clause-turns g c =
     record {
       serves =
           then_owed
-          (beside (turns_of c.args.gathered.now.numbers.items)
+          (beside (turns_of (numbers_of c.args.gathered.now.ring.waiting))
           (owed_for (attended_all g.L.Ledgers.means g.C.Moments.gives g.H.Steward.renews g.H.Steward.waits
           g.P.Peers.does c.attend.ensures) (λ never. absurd never)))
           (then_owed
-          (owed_for (told_owed c.told-told.result c.told-told.ensures c.serve_told-replies.ensures.serves)
+          (owed_for (told_owed c.tell-told.result c.tell-told.ensures c.serve_told-replies.ensures.serves)
           (λ never. absurd never))
           (owed_for c.serve_due-more.ensures.replies.serves
           (λ (all : c.serve_due-more.result ≡ c.args.most - c.serve_told-replies.result).
@@ -84,8 +85,8 @@ returns-clause-turns g c =
 
 pub returns-clause-more : goal.returns-clause-more
 returns-clause-more g c served = record {
-  told = c.told-told.result;
-  peers = c.told-told.new.self;
-  said = c.told-told.ensures;
+  told = c.tell-told.result;
+  peers = c.tell-told.new.peers;
+  said = c.tell-told.ensures;
   more = c.if-is_over.ensures.more refl;
 }

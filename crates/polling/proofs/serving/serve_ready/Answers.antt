@@ -1,4 +1,5 @@
-use Rattle.std.proofs.Common.{◌≡◌, ◌-◌, inl, inr, refl, sym, arith}
+use Rattle.std.proofs.Common.{◌≡◌, ◌-◌, inl, inr, refl, sym, ap, arith}
+use Rattle.polling.specs.Ring.{numbers_of}
 use Rattle.polling.specs.Ending.{Start, Enough, Quiet}
 use Rattle.polling.proofs.TurnLemmas.{turns_serve, next_turn, all_turns, too_long, quiet_serves, quiet_then}
 use Rattle.polling.proofs.AllLemmas.{none_owed, owed_for, then_owed, turns_as}
@@ -7,8 +8,8 @@ use Rattle.polling.proofs.serving.serve_ready.Goals as goal
 pub loop-init : goal.loop-init
 loop-init g c = record {
   turns = Start;
-  served = turns_as (sym c.new-gathered.ensures.none) (none_owed (λ one found. found));
-  all = λ some. c.new-gathered.ensures.none;
+  served = turns_as (ap numbers_of (sym c.new-gathered.ensures)) (none_owed (λ one found. found));
+  all = λ some. c.new-gathered.ensures;
   few = omega arith;
 }
 
@@ -16,7 +17,7 @@ pub returns-then-replies-most : goal.returns-then-replies-most
 returns-then-replies-most g c = record {
   serves = turns_serve c.loop.invariant.turns;
   ends = Enough c.if-replies-most.true;
-  turns = inl (turns_as (c.loop.invariant.all c.if-replies-most.true) c.loop.invariant.served);
+  turns = inl (turns_as (ap numbers_of (c.loop.invariant.all c.if-replies-most.true)) c.loop.invariant.served);
   few = c.loop.invariant.few;
 }
 
@@ -28,7 +29,7 @@ returns-in-Nothing g c =
       ends = Quiet (quiet_then (turns_serve c.loop.invariant.turns) c.in-Nothing.ensures.does);
       turns =
           inl
-          (turns_as (c.in-Nothing.ensures.all (inl refl))
+          (turns_as (ap numbers_of (c.in-Nothing.ensures.all (inl refl)))
           (then_owed c.loop.invariant.served
           (owed_for c.in-Nothing.ensures.turns.serves
           (λ (all : 0 ≡ c.args.most - c.loop.replies). omega (arith, all, few)))

@@ -1,6 +1,7 @@
 use Rattle.std.proofs.Common.{◌≡◌, ◌≤◌, []}
 use Rattle.service.specs.Seen.{SeenAt}
 use Rattle.polling.specs.Serving.{rules}
+use Rattle.polling.specs.Ring.{numbers_of}
 use Rattle.polling.specs.Standing.{turns_of}
 use Rattle.polling.specs.Seating.{held_by, ServesOwed}
 use Rattle.polling.specs.Ending.{Turns}
@@ -16,9 +17,9 @@ invariant-loop g l = record {
       (held_by l.ledgers l.moments l.peers l.seats);
   served :
       ServesOwed (rules g.L.Ledgers.means g.C.Moments.gives g.H.Steward.renews g.H.Steward.waits g.P.Peers.does)
-      (l.replies ≡ l.most) [] (turns_of l.gathered.numbers.items)
+      (l.replies ≡ l.most) [] (turns_of (numbers_of l.gathered.ring.waiting))
       (held_by l.fn.ledgers l.fn.moments l.fn.peers l.fn.seats)
       (held_by l.ledgers l.moments l.peers l.seats) l.replies;
-  all : l.replies ≡ l.most → l.gathered.numbers.items ≡ [];
+  all : l.replies ≡ l.most → l.gathered.ring.waiting ≡ [];
   few : l.replies ≤ l.most;
 }

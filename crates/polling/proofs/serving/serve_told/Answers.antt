@@ -1,8 +1,8 @@
 use Rattle.std.proofs.Common.{arith, refl}
+use Rattle.polling.specs.Ring.{numbers_of}
 use Rattle.polling.specs.Standing.{A_turn, owing, turns_of}
 use Rattle.polling.specs.declared.peers.Told.TheVariants.{Joined, Ready, Late, Nothing}
 use Rattle.polling.proofs.AllLemmas.{beside, none_owed, puts_off_all, then_owed, unchanged}
-use Rattle.polling.proofs.KindLemmas.{put_off_by}
 use Rattle.polling.proofs.StandLemmas.{among_beside, among_first, among_turns}
 use Rattle.polling.proofs.ToldLemmas.{as_told, told_beside}
 use Rattle.polling.proofs.serving.serve_told.Goals as goal
@@ -11,7 +11,7 @@ pub returns-in-Joined : goal.returns-in-Joined
 returns-in-Joined g c = record {
   serves = rw c.in-Joined.is
       (as_told Joined
-      (beside (turns_of c.args.gathered.now.numbers.items)
+      (beside (turns_of (numbers_of c.args.gathered.now.ring.waiting))
       (c.join.ensures c.args.ledgers.now c.args.moments.now)));
   few = omega arith;
 }
@@ -21,7 +21,7 @@ returns-in-Gathered g c = record {
   serves = rw c.in-Ready.is
       (as_told (Ready c.in-Ready.number)
       (unchanged c.place.ensures.same
-      (among_first c.in-Ready.number c.args.gathered.now.numbers.items c.place.new.self.numbers.items
+      (among_first c.in-Ready.number (numbers_of c.args.gathered.now.ring.waiting) (numbers_of c.place.new.self.ring.waiting)
       (c.in-Gathered.ensures.gathers.gathered refl) c.place.ensures.gathers.kept)));
   few = omega arith;
 }
@@ -29,16 +29,15 @@ returns-in-Gathered g c = record {
 pub returns-in-Later : goal.returns-in-Later
 returns-in-Later g c = record {
   serves =
-      let gathered = c.args.gathered.now.numbers.items in
-      let placed = c.in-Later.ensures.placed.1 in
+      let gathered = numbers_of c.args.gathered.now.ring.waiting in
+      let placed = c.in-Later.ensures.placed in
       rw c.in-Ready.is
       (as_told (Ready c.in-Ready.number)
       (then_owed
       (beside (turns_of gathered)
-      (puts_off_all placed.1
-      (put_off_by g.H.Steward.waits c.args.gathered.now.queries placed.0 placed.2) c.again.ensures))
+      (puts_off_all placed.1 placed.2 c.again.ensures))
       (unchanged c.place.ensures.same
-      (among_turns gathered c.place.new.self.numbers.items c.place.ensures.gathers.kept))
+      (among_turns gathered (numbers_of c.place.new.self.ring.waiting) c.place.ensures.gathers.kept))
       refl));
   few = omega arith;
 }
@@ -46,8 +45,8 @@ returns-in-Later g c = record {
 pub returns-in-Now : goal.returns-in-Now
 returns-in-Now g c = record {
   serves =
-      let gathered = c.args.gathered.now.numbers.items in
-      let gathered_now = c.place.new.self.numbers.items in
+      let gathered = numbers_of c.args.gathered.now.ring.waiting in
+      let gathered_now = numbers_of c.place.new.self.ring.waiting in
       rw c.in-Ready.is
       (as_told (Ready c.in-Ready.number)
       (then_owed
@@ -61,7 +60,7 @@ returns-in-Now g c = record {
 pub returns-in-Late : goal.returns-in-Late
 returns-in-Late g c = record {
   serves = rw c.in-Late.is
-      (told_beside (Late c.in-Late.number) (turns_of c.args.gathered.now.numbers.items)
+      (told_beside (Late c.in-Late.number) (turns_of (numbers_of c.args.gathered.now.ring.waiting))
       (c.let_go.ensures c.args.ledgers.now c.args.moments.now));
   few = omega arith;
 }

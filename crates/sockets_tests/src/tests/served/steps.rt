@@ -20,6 +20,8 @@ pub enum Step {
     Hears(usize, usize),
     /// A client that sends on is reset.
     IsReset(usize),
+    /// The client that connected last leaves, and reads nothing more.
+    Leaves,
     /// This number is handed in, and in so many waits this is told.
     Tells(u64, u64, Told),
     /// A client is to be read whose message has so many bytes.
@@ -128,6 +130,7 @@ fn is_done(rt: &HostRuntime, scene: &mut Scene<'_>, step: Step) -> Result<bool, 
         }
         Step::Hears(client, bytes) => Ok(scene.hear(client)? == bytes),
         Step::IsReset(client) => Ok(scene.is_reset(client)),
+        Step::Leaves => Ok(scene.clients.pop().is_some()),
         _ => Ok(false),
     }
 }
