@@ -244,7 +244,7 @@ def main(words):
     rt.rtlib.stop = rt.stop
     mode, *asked = words
     os.chdir(TOP)
-    found = {it.name: it for it in rt.rtlib.crates_below(str(TOP))}
+    found = {it.name: it for it in rt.rtlib.crates_below(str(TOP / "crates"))}
     of_tests = [name for name, it in found.items() if it.has_tests()]
     product = [name for name in found if not name.endswith("_tests")]
     rt.rtlib.stop_on_unread(str(TOP / "crates"), [*found.values()])
