@@ -134,7 +134,7 @@ pub(crate) fn open_or_make<St: Start>(
             make(rt, path, start)
         }
         Found::Empty => make(rt, path, start),
-        Found::Filled => open_or_make_in(rt, path, start),
+        Found::Filled => open_or_make_in(rt, path, start, &CountingAudit::new()),
     }
 }
 
@@ -179,9 +179,21 @@ pub(crate) fn examine<St: Start>(
     ensures { MatchResult result (IsFoundAs (image_at St.Start))
         (RefusesImage ⟦<FileFrom<St> as Disk>⟧ (image_at St.Start)) }
 {
+    examine_by(rt, path, start, &CountingAudit::new())
+}
+
+// The same, by an audit that has the latest clock afterwards.
+fn examine_by<St: Start>(
+    rt: &HostRuntime,
+    path: &str,
+    start: St,
+    audit: &CountingAudit,
+) -> Result<Audited<FileFrom<St>>, Fault>
+    ensures { MatchResult result (IsFoundAs (image_at St.Start))
+        (RefusesImage ⟦<FileFrom<St> as Disk>⟧ (image_at St.Start)) }
+{
     let options = prepared(rt, path)?;
-    let audit = CountingAudit::new();
-    match Store::open_at(rt, path, start, options, &audit) {
+    match Store::open_at(rt, path, start, options, audit) {
         Ok(store) => {
             if is_lacking(rt, path, audit.clock()) {
                 return Err(Fault::Behind);
@@ -282,14 +294,14 @@ fn open_or_make_in<St: Start>(
     rt: &HostRuntime,
     path: &str,
     start: St,
+    audit: &CountingAudit,
 ) -> Result<Opened<FileFrom<St>>, Fault>
     ensures { MatchResult result
         (λ opened. IsOpenedOrMade opened.is_new (image_at St.Start) opened.store)
         (RefusesImage ⟦<FileFrom<St> as Disk>⟧ (image_at St.Start)) }
 {
     let options = small_options(rt)?;
-    let audit = CountingAudit::new();
-    match Store::open_at(rt, path, start, options, &audit) {
+    match Store::open_at(rt, path, start, options, audit) {
         Ok(store) => {
             if is_lacking(rt, path, audit.clock()) {
                 return Err(Fault::Behind);

@@ -1,6 +1,7 @@
 //! The program on host files.
-use super::files::Step::{Changes, Fills, IsPrivate, Lacks, Makes, Marks, Posts, Refuses, Serves};
-use super::files::Step::{Tells, Writes};
+use super::files::Step::{
+    Changes, Fills, IsPrivate, Lacks, Makes, Marks, Posts, Refuses, Serves, Tells, Writes,
+};
 use super::files::{Step, remove, run_program, take_steps, tells};
 use super::firms::KEY;
 use command_texts::Fault;

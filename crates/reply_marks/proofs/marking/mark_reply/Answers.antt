@@ -16,8 +16,12 @@ returns-in-Some-clause-ok g c =
 pub returns-in_default-clause-ok : goal.returns-in_default-clause-ok
 returns-in_default-clause-ok g c =
     Nothing_later
-    (λ clock tells. omega (arith, c.if-clock-noted.false, ap (λ n. n.mark) c.noted.ensures,
-    one_clock _ clock c.in-Some.clock tells c.in-Some.ensures))
+    (λ clock tells. omega (
+      arith,
+      c.if-clock-noted.false,
+      ap (λ n. n.mark) c.noted.ensures,
+      one_clock _ clock c.in-Some.clock tells c.in-Some.ensures,
+    ))
     refl
 
 pub returns-in_default-2-clause-ok : goal.returns-in_default-2-clause-ok

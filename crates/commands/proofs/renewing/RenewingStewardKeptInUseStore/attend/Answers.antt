@@ -12,3 +12,6 @@ pub returns-then-is_answering : goal.returns-then-is_answering
 returns-then-is_answering g c =
     attended_so g.H.Home.opens g.C.Moments.gives c.args.kept.now c.settle.new.kept c.args.moments.now
     c.settle.new.moments c.settle.ensures
+
+pub returns-else-is_answering : goal.returns-else-is_answering
+returns-else-is_answering g c = Unasked refl c.renew.ensures
