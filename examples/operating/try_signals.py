@@ -35,8 +35,13 @@ def rows():
             yield getattr(signal, name), effect
 
 
-def without_core():
+def as_by_systemd():
+    """Leaves no core file, and has each signal do what it does by itself. A shell ignores SIGINT and SIGQUIT
+    in what it runs in the background, and that would be inherited."""
     resource.setrlimit(resource.RLIMIT_CORE, (0, 0))
+    for number, _ in rows():
+        if number not in (signal.SIGKILL, signal.SIGSTOP):
+            signal.signal(number, signal.SIG_DFL)
 
 
 def ask(link, path, events):
@@ -81,7 +86,7 @@ def main():
                        text=True, check=True, stdout=subprocess.DEVNULL, stderr=subprocess.DEVNULL)
         for place, (number, effect) in enumerate(listed):
             words = [ledgerd, "serve", "--db", db, "--port", str(port)]
-            begun = subprocess.Popen(words, preexec_fn=without_core, stderr=subprocess.DEVNULL)
+            begun = subprocess.Popen(words, preexec_fn=as_by_systemd, stderr=subprocess.DEVNULL)
             with ended(begun) as service:
                 wait_for(port, service)
                 wait_for_reply(port)
