@@ -5,7 +5,8 @@ use super::firms::NO_TRANSFERS;
 use super::homes::{Fails, Firms, InMemory, Notes, Nowhere, TestDisk};
 use super::orders::Silent;
 use super::scripted::Hand;
-use super::serving::{AT_FIRST, Thousands};
+use super::serving::AT_ONCE;
+use super::settling::At;
 use command_texts::Fault;
 use commands::{Served, serve_store};
 use polling::Peers;
@@ -88,7 +89,7 @@ fn serve<D: Disk + Drop, F: Firms<D>, P: Peers>(
     let Some(store) = firms.store(Fails::Never) else {
         return Err(Fail::new(format_args!("no store")));
     };
-    let mut moments = Thousands(1000);
+    let mut moments = At(1000);
     let (served, Silent) = serve_store(
         rt.alloc(),
         peers,
@@ -127,7 +128,7 @@ fn exchange(rt: &HostRuntime, texts: [&str; 3], most: u64) -> Result<Vec<u8>, Fa
 fn serves_clients_at_once(rt: HostRuntime) -> Result<(), Fail> {
     let two = format!(in rt.alloc(); "{NO_TRANSFERS}{NO_TRANSFERS}")?;
     let told = exchange(&rt, ["", "POST /transfers HT", &two], 2)?;
-    let want = format!(in rt.alloc(); "|||{AT_FIRST}")?;
+    let want = format!(in rt.alloc(); "|||{AT_ONCE}")?;
     assert_eq!(rt; told.as_slice(), want.as_bytes());
     Ok(())
 }

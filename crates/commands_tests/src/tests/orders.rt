@@ -137,7 +137,7 @@ fn ordered_of<D: Disk + Drop, F: Firms<D>>(
         peers.add(NO_TRANSFERS, messages)?;
     }
     let most = if messages > 0 { messages } else { u64::MAX };
-    let mut moments = Thousands(1000);
+    let mut moments = Thousands(&clock);
     let asking = Asking {
         alloc,
         orders,

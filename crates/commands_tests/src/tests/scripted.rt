@@ -8,27 +8,41 @@ use std::cell::Cell;
 use std::io;
 use std::time::{Clock, Duration};
 
-/// A clock that is set by hand, in seconds.
+/// A clock that is set by hand, in seconds, and how many replies were written by it.
 #[derive(Drop)]
-pub struct Hand(Cell<u64>);
+pub struct Hand {
+    seconds: Cell<u64>,
+    replies: Cell<u64>,
+}
 
 impl Hand {
     pub fn new() -> Hand {
-        Hand(Cell::new(0))
+        Hand {
+            seconds: Cell::new(0),
+            replies: Cell::new(0),
+        }
     }
 
     pub fn seconds(&self) -> u64 {
-        self.0.get()
+        self.seconds.get()
+    }
+
+    pub fn replies(&self) -> u64 {
+        self.replies.get()
     }
 
     fn pass(&self, seconds: u64) {
-        self.0.set(self.0.get().saturating_add(seconds));
+        self.seconds.set(self.seconds.get().saturating_add(seconds));
+    }
+
+    fn reply(&self) {
+        self.replies.set(self.replies.get().saturating_add(1));
     }
 }
 
 impl Clock for Hand {
     fn monotonic(&self) -> io::Result<Duration> {
-        Ok(Duration::from_secs(self.0.get()))
+        Ok(Duration::from_secs(self.seconds.get()))
     }
 
     fn since_1970(&self) -> io::Result<Duration> {
@@ -145,7 +159,10 @@ impl Peers for Scripted<'_> {
             return Written::Broken;
         };
         match peer.heard.extend_from_slice(bytes) {
-            Ok(()) => Written::Took(bytes.len()),
+            Ok(()) => {
+                self.clock.reply();
+                Written::Took(bytes.len())
+            }
             Err(_) => Written::Broken,
         }
     }

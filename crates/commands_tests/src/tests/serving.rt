@@ -29,23 +29,24 @@ macro_rules! replies {
 /// The replies to the first two batches of no transfers.
 pub const AT_FIRST: &str = replies!("" "1000", "" "2000");
 
+/// The replies to two batches of no transfers at one moment.
+pub const AT_ONCE: &str = replies!("" "1000", "" "1000");
+
 /// What a client is told where no call is answered.
 pub const UNAVAILABLE: &str = concat!(
     "HTTP/1.1 503 Service Unavailable\r\ncontent-length: 23\r\n",
     "content-type: application/json\r\n\r\n{\"error\":\"unavailable\"}"
 );
 
-// Gives its number, and from then on one thousand more each time.
+// One thousand for the first message, and one thousand more for each reply that was written since.
 #[derive(Drop)]
-pub struct Thousands(pub u64);
+pub struct Thousands<'a>(pub &'a Hand);
 
-impl Moments for Thousands {
+impl Moments for Thousands<'_> {
     ghost gives = { λ _ _ _. Unit {0} };
 
     fn moment(&mut self) -> u64 {
-        let moment = self.0;
-        self.0 = moment.saturating_add(1000);
-        moment
+        self.0.replies().saturating_add(1).saturating_mul(1000)
     }
 }
 
@@ -63,7 +64,7 @@ pub fn exchange_over<D: Disk + Drop, H: Home<D>>(
     peers.add(NO_TRANSFERS, messages.0)?;
     peers.add(NO_TRANSFERS, messages.1)?;
     let most = messages.0.saturating_add(messages.1);
-    let mut moments = Thousands(1000);
+    let mut moments = Thousands(clock);
     let (served, Silent) = serve_store(
         alloc,
         &mut peers,

@@ -30,7 +30,7 @@ impl Moments for ByHand<'_> {
 
 /// The same moment each time.
 #[derive(Drop)]
-struct At(u64);
+pub struct At(pub u64);
 
 impl Moments for At {
     ghost gives = { λ _ _ _. ⊤ };
