@@ -1,7 +1,7 @@
 -- What a good head is, and what it says.
-use Rattle.std.specs.Prelude.{◌≡◌, ℕ, ◌≤◌, ◌&&◌, ◌==◌, not, Bool, List, [], ◌∷◌, length, filter, map, codes, Option, Some, None, option_and_then, if◌then◌else◌, ⊤, IsTrue, nat_lt, slice_index}
-use Rattle.std.specs.List.{list_all}
-use Rattle.std.specs.Char.{is_ascii_digit}
+use Rattle.std.specs.Prelude.{◌≡◌, ℕ, ◌≤◌, ◌-◌, ◌&&◌, ◌==◌, not, Bool, false, List, [], ◌∷◌, length, take, drop, filter, map, codes, bytes_eq, Option, Some, None, option_and_then, if◌then◌else◌, ⊤, IsTrue, nat_lt, slice_index}
+use Rattle.std.specs.List.{list_all, list_any, prefix_len, suffix_len, slice_split}
+use Rattle.std.specs.Char.{is_ascii_digit, is_ascii_whitespace}
 use Rattle.std.specs.Str.{str_eq_ignore_ascii_case}
 use Rattle.std.specs.Str.Parse.{digits_value}
 use Rattle.httparse.specs.Grammar.{Field, field_value, RequestHead, ReadsRequest}
@@ -50,3 +50,31 @@ stated_length h = option_and_then number_in (sole (values_of (codes "content-len
 -- the text of the key, where it is sent once
 abbrev pub key_text : RequestHead → Option (List ℕ)
 key_text h = sole (values_of (codes "x-ledger-key") h.fields)
+
+-- there is a text, and it is this one
+abbrev pub is_text : List ℕ → Option (List ℕ) → Bool
+is_text text None = false
+is_text text (Some other) = bytes_eq other text
+
+-- the request asks for detail in its reply: the header is sent once, with the value 1
+abbrev pub wants_detail : RequestHead → Bool
+wants_detail h = is_text (codes "1") (sole (values_of (codes "x-ledger-detail") h.fields))
+
+-- a text without white space at its end, and at both ends
+abbrev pub without_end : List ℕ → List ℕ
+without_end text = take (length text - suffix_len is_ascii_whitespace text) text
+
+abbrev pub trimmed : List ℕ → List ℕ
+trimmed text = without_end (drop (prefix_len is_ascii_whitespace text) text)
+
+-- a part of a list is this token, in any case
+abbrev pub is_token : List ℕ → List ℕ → Bool
+is_token token part = str_eq_ignore_ascii_case (trimmed part) token
+
+-- a list with commas between its parts has this token (RFC 9110, 5.6.1)
+abbrev pub has_token : List ℕ → List ℕ → Bool
+has_token token list = list_any (is_token token) (slice_split (λ byte. byte == 44) list)
+
+-- the connection ends after the reply to the request (RFC 9112, 9.6)
+abbrev pub has_close : RequestHead → Bool
+has_close h = list_any (has_token (codes "close")) (values_of (codes "connection") h.fields)

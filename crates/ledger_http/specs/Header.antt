@@ -3,7 +3,7 @@ use Rattle.std.specs.Prelude.{◌≡◌, ℕ, ◌≤◌, ◌+◌, List, [], ◌�
 use Rattle.std.specs.Str.{str_eq_ignore_ascii_case}
 use Rattle.httparse.specs.Grammar.{RequestHead}
 use Rattle.ledger_http.specs.Limits.{max_body}
-use Rattle.ledger_http.specs.Head.{stated_length, key_text}
+use Rattle.ledger_http.specs.Head.{stated_length, key_text, wants_detail, has_close}
 use Rattle.ledger_http.specs.declared.head.Head.{Head}
 use Rattle.ledger_http.specs.declared.header.Found.{Found}
 use Rattle.ledger_http.specs.declared.header.Found.TheVariants.{Absent, Once, More}
@@ -25,3 +25,5 @@ pub record ShowsHead (head : Head) (h : RequestHead) : Type 0 where
   pub target : head.target.now ≡ h.target
   pub size : head.length ≡ option_map (min (max_body + 1)) (stated_length h)
   pub key : option_map (λ text. text.now) head.key ≡ key_text h
+  pub detail : head.wants_detail ≡ wants_detail h
+  pub close : head.has_close ≡ has_close h

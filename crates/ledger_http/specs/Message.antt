@@ -1,6 +1,6 @@
 -- The first message of some bytes. Which head they have is a relation, and all else a function
 -- of the bytes and the head.
-use Rattle.std.specs.Prelude.{◌≡◌, ◌≢◌, ℕ, suc, ◌+◌, true, List, [], ◌∷◌, length, take, drop, codes, bytes_eq, nat_eq, nat_lt, nat_le, Option, Some, None, option_map, ok_or, unwrap_or, Result, Ok, Err, if◌then◌else◌}
+use Rattle.std.specs.Prelude.{◌≡◌, ◌≢◌, ℕ, suc, ◌+◌, Bool, true, false, List, [], ◌∷◌, length, take, drop, codes, bytes_eq, nat_eq, nat_lt, nat_le, Option, Some, None, option_map, ok_or, unwrap_or, Result, Ok, Err, if◌then◌else◌}
 use Rattle.std.specs.List.{starts_with}
 use Rattle.httparse.specs.Grammar.{RequestHead}
 use Rattle.ledger_http.specs.declared.refusal.Refusal.{Refusal}
@@ -8,7 +8,7 @@ use Rattle.ledger_http.specs.declared.refusal.Refusal.TheVariants.{BadHead, Head
 use Rattle.ledger_http.specs.Limits.{max_head, max_body}
 use Rattle.ledger_http.specs.RefusalTable.{is_of_reading}
 use Rattle.ledger_http.specs.Results.{and_then}
-use Rattle.ledger_http.specs.Head.{IsGoodHead, stated_length}
+use Rattle.ledger_http.specs.Head.{IsGoodHead, stated_length, has_close}
 
 -- two line ends
 abbrev pub blank_line : List ℕ
@@ -36,6 +36,16 @@ abbrev pub HasHead : List ℕ → Option RequestHead → Type 0
 HasHead bytes (Some h) = (n : ℕ) × (length_of_head bytes ≡ Ok n) × IsGoodHead (take n bytes) h
 HasHead bytes None =
     (n : ℕ) → length_of_head bytes ≡ Ok n → (h : RequestHead) → IsGoodHead (take n bytes) h → ⊥
+
+-- the connection ends after the reply to the bytes' first message, as its head says
+abbrev pub closes_after : Option RequestHead → Bool
+closes_after (Some h) = has_close h
+closes_after None = false
+
+-- whether the head of the bytes, if they have a good one, ends the connection
+abbrev pub IsClosing : List ℕ → Bool → Type 0
+IsClosing bytes closes =
+    (head : Option RequestHead) × HasHead bytes head × (closes ≡ closes_after head)
 
 -- a method but GET states a length
 abbrev pub length_for : List ℕ → Option ℕ → Result ℕ Refusal

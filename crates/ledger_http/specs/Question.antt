@@ -1,5 +1,5 @@
 -- What the first message of some bytes asks for.
-use Rattle.std.specs.Prelude.{◌≡◌, ◌≢◌, ℕ, List, bytes_eq, codes, Option, option_and_then, ok_or, Result, Ok, Err, IsOk, MatchResult, if◌then◌else◌}
+use Rattle.std.specs.Prelude.{◌≡◌, ◌≢◌, ℕ, Bool, List, bytes_eq, codes, Option, option_and_then, ok_or, Result, Ok, Err, IsOk, MatchResult, if◌then◌else◌}
 use Rattle.httparse.specs.Grammar.{RequestHead}
 use Rattle.tenants.specs.KeyText.{key_of}
 use Rattle.ledger_http.specs.declared.early.Early.{Early}
@@ -9,15 +9,16 @@ use Rattle.ledger_http.specs.declared.refusal.Refusal.TheVariants.{NoRoute, BadM
 use Rattle.ledger_http.specs.declared.route.Route.{Route}
 use Rattle.ledger_http.specs.declared.request.Asked.{Asked}
 use Rattle.ledger_http.specs.Results.{and_then}
-use Rattle.ledger_http.specs.Head.{key_text}
+use Rattle.ledger_http.specs.Head.{key_text, wants_detail}
 use Rattle.ledger_http.specs.Message.{First, first_message, HasHead}
 use Rattle.ledger_http.specs.Routes.{route_of, method_of, account_text}
 
--- a request up to its key, and its body as it stands
+-- a request up to its key, whether it asks for detail, and its body as it stands
 pub record Question : Type 0 where
   pub route : Route
   pub account : List ℕ
   pub key : List ℕ
+  pub detail : Bool
   pub body : List ℕ
 
 -- the route, where this is its method
@@ -34,6 +35,7 @@ question_by_route first =
       route = route;
       account = account_text first.head.target;
       key = key;
+      detail = wants_detail first.head;
       body = first.body;
     }))))
 
@@ -71,6 +73,7 @@ question_of asked = record {
   route = asked.route;
   account = asked.account.now;
   key = asked.key;
+  detail = asked.detail;
   body = asked.body.now;
 }
 

@@ -48,6 +48,7 @@ fn question_by_route<'a>(
         route,
         account: account_in(head.target),
         key,
+        detail: head.wants_detail,
         body,
     })
 }

@@ -3,11 +3,11 @@ ghost use Rattle.std.specs.Prelude.{◌≡◌, ◌≤◌, ◌+◌, [], All, leng
 ghost use Rattle.httparse.specs.Grammar.{RequestHead, ReadsRequest};
 ghost use Rattle.httparse.specs.Spans.{IsHeaderWithin, IsRequestWithin, IsRequestAt, header_bytes};
 ghost use Rattle.ledger_http.specs.Limits.{max_body};
-ghost use Rattle.ledger_http.specs.Head.{IsGoodHead, IsLength, sole, number_in};
+ghost use Rattle.ledger_http.specs.Head.{IsGoodHead, IsLength, sole, number_in, is_text};
 ghost use Rattle.ledger_http.specs.Header.{values_in, ShowsHead};
 
 use crate::Refusal;
-use crate::header::{Found, find_header, read_length};
+use crate::header::{Found, find_header, lists_token, read_length};
 use crate::limits::MAX_HEADERS;
 use httparse::Status;
 use httparse::spans::{EMPTY_HEADER_SPAN, HeaderSpan, RequestSpans, parse_request};
@@ -21,6 +21,9 @@ pub(crate) struct Head<'a> {
     pub(crate) length: Option<usize>,
     // The text of the key, if it is sent once.
     pub(crate) key: Option<&'a [u8]>,
+    pub(crate) wants_detail: bool,
+    // Whether the connection ends after the reply.
+    pub(crate) has_close: bool,
 }
 
 // Where the parts of a head of version 1.1 are that takes up all bytes.
@@ -76,6 +79,18 @@ fn key_in<'a>(bytes: &'a [u8], headers: &[HeaderSpan]) -> Option<&'a [u8]>
     }
 }
 
+// Whether the headers ask for detail in the reply, once.
+fn wants_detail(bytes: &[u8], headers: &[HeaderSpan]) -> bool
+    requires { All (IsHeaderWithin (length bytes.now)) headers.now }
+    ensures { result ≡ is_text (codes "1")
+        (sole (values_in (codes "x-ledger-detail") (map (header_bytes bytes.now) headers.now))) }
+{
+    match find_header(bytes, headers, b"x-ledger-detail") {
+        Found::Once(text) => text == b"1".as_slice(),
+        Found::Absent | Found::More => false,
+    }
+}
+
 /// What a head says that takes up all bytes.
 pub(crate) fn head_of(bytes: &[u8]) -> Result<Head<'_>, Refusal>
     ensures good { IfOk result
@@ -92,5 +107,7 @@ pub(crate) fn head_of(bytes: &[u8]) -> Result<Head<'_>, Refusal>
         target: str::from_utf8(spans.path.of(bytes)).unwrap(),
         length,
         key: key_in(bytes, headers),
+        wants_detail: wants_detail(bytes, headers),
+        has_close: lists_token(bytes, headers, b"connection", b"close"),
     })
 }

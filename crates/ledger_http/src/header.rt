@@ -1,11 +1,11 @@
 //! The headers of a head, by their names.
 ghost use Rattle.std.specs.Prelude.{◌≡◌, ◌≤◌, ◌+◌, ◌*◌, ◌&&◌, ◌==◌, nat_lt, slice_index, true, All, length, map, min, option_map};
 ghost use Rattle.std.specs.Char.{is_ascii_digit, digit_value};
-ghost use Rattle.std.specs.List.{list_all};
+ghost use Rattle.std.specs.List.{list_all, list_any};
 ghost use Rattle.std.specs.Str.{str_eq_ignore_ascii_case};
 ghost use Rattle.httparse.specs.Spans.{IsHeaderWithin, header_bytes};
 ghost use Rattle.ledger_http.specs.Limits.{max_body};
-ghost use Rattle.ledger_http.specs.Head.{is_canonical, number_in};
+ghost use Rattle.ledger_http.specs.Head.{is_canonical, number_in, is_token, has_token};
 ghost use Rattle.ledger_http.specs.Header.{values_in, IsFound};
 
 use crate::limits::MAX_BODY;
@@ -43,6 +43,35 @@ pub(crate) fn find_header<'a>(bytes: &'a [u8], headers: &[HeaderSpan], name: &[u
         Some(value) => Found::Once(value),
         None => Found::Absent,
     }
+}
+
+// Whether a part of a list is a token.
+fn is_token(part: &[u8], token: &[u8]) -> bool
+    ensures { result ≡ is_token token.now part.now }
+{
+    is_named(part.trim_ascii(), token)
+}
+
+// Whether a list has a token.
+fn has_token(list: &[u8], token: &[u8]) -> bool
+    ensures { result ≡ has_token token.now list.now }
+{
+    list.split(|byte| *byte == b',')
+        .any(|part| is_token(part, token))
+}
+
+/// Whether a header with this name has the token in its list.
+pub(crate) fn lists_token(bytes: &[u8], headers: &[HeaderSpan], name: &[u8], token: &[u8]) -> bool
+    requires { All (IsHeaderWithin (length bytes.now)) headers.now }
+    ensures { result ≡ list_any (has_token token.now)
+        (values_in name.now (map (header_bytes bytes.now) headers.now)) }
+{
+    for header in headers {
+        if is_named(header.name.of(bytes), name) && has_token(header.value.of(bytes), token) {
+            return true;
+        }
+    }
+    false
 }
 
 fn are_digits(text: &[u8]) -> bool

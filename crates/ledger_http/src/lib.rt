@@ -4,6 +4,7 @@
 
 mod asking;
 mod chunk;
+mod closing;
 mod content_type;
 mod early;
 mod ends;
@@ -25,6 +26,7 @@ mod writing;
 
 pub use asking::asked;
 pub use chunk::put_chunk;
+pub use closing::is_closing;
 pub use content_type::ContentType;
 pub use early::Early;
 pub use inbox::{Inbox, Next};

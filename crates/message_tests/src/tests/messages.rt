@@ -2,6 +2,7 @@
 
 mod arriving;
 mod asking;
+mod closing;
 mod reading;
 mod replies;
 mod sample;

@@ -27,5 +27,7 @@ returns-clause-good c =
         target = text.0 ∙ c.of-2.ensures ∙ whole.3.path;
         size = rw (shown (codes "content-length")) at lengths.2;
         key = rw (shown (codes "x-ledger-key")) at c.key_in.ensures;
+        detail = rw (shown (codes "x-ledger-detail")) at c.wants_detail.ensures;
+        close = rw (shown (codes "connection")) at c.lists_token.ensures;
       },
     )

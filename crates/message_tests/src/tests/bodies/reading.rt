@@ -370,6 +370,7 @@ fn posted<'a>(rt: &impl Abort, route: Route, body: &'a [u8]) -> Asked<'a> {
         route,
         account: "",
         key: Key::read(&[b'0'; 64]).expect(rt, "64 digits are a key"),
+        detail: false,
         body,
     }
 }
