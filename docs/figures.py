@@ -16,7 +16,7 @@ from xml.sax.saxutils import escape
 TOP = pathlib.Path(__file__).resolve().parent.parent
 # Crates that the program does not call: tests, what they need, laws over what the program calls, and
 # what it does not use yet.
-BESIDE = {"samples", "failing_streams", "failing_disk", "noting_disk", "whole_runs"}
+BESIDE = {"keyed_trees", "samples", "failing_streams", "failing_disk", "noting_disk", "whole_runs"}
 # Each row of the figure from the top: its parts beside each other. A crate may stand on crates of its
 # own row and of the rows below.
 LAYERS = [

@@ -1,0 +1,10 @@
+pub mod AppendLemmas
+pub mod EntryLemmas
+pub mod KeepingLemmas
+pub mod NextRowidLemmas
+pub mod OpenLemmas
+pub mod RangeLemmas
+pub mod ReadLemmas
+pub mod RowidLemmas
+pub mod ServingLemmas
+pub mod StateLemmas

@@ -1,0 +1,11 @@
+pub mod Calls
+pub mod Columns
+pub mod Effects
+pub mod Frames
+pub mod Kept
+pub mod Layout
+pub mod NextRowids
+pub mod Rows
+pub mod Serving
+pub mod Stages
+pub mod StoreCalls

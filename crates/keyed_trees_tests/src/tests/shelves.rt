@@ -1,0 +1,194 @@
+//! Things on shelves, with the keys (shelf, name) and (shelf, place).
+
+use keyed_trees::{Columns, Committed, Key, Layout, Record, Transaction};
+use sqlite_sql::query::Index;
+use sqlite_trees::error::StoreError;
+use sqlite_trees::memory::MemStore;
+use sqlite_trees::schema::Object;
+use sqlite_trees::store::Shape;
+use sqlite_value::keys::Order;
+use sqlite_value::row::Row;
+use sqlite_value::value::ValueRef;
+use std::alloc::{AllocError, Global};
+use std::test::Fail;
+
+pub(crate) struct Shelves;
+
+impl Layout for Shelves {
+    ghost use Rattle.std.specs.Prelude.{[], ◌∷◌};
+    ghost use Rattle.std.proofs.Common.{rules};
+    ghost use Rattle.sqlite_value.specs.Keys.{plain};
+
+    ghost schema = { record { tables = []; indexes = []; views = [] } };
+
+    ghost tables = { 0 ∷ [] };
+
+    ghost keys = { record { tree = 1; table = 0; columns = 1 ∷ 2 ∷ []; order = plain }
+        ∷ record { tree = 2; table = 0; columns = 1 ∷ 3 ∷ []; order = plain } ∷ [] };
+
+    ghost apart = { Prim.search rules };
+
+    fn tables() -> &'static [u32] {
+        &[0]
+    }
+
+    fn catalog() -> &'static [Index<'static>] {
+        &[
+            Index {
+                tree: 1,
+                table: 0,
+                columns: &[1, 2],
+                order: Order::PLAIN,
+            },
+            Index {
+                tree: 2,
+                table: 0,
+                columns: &[1, 3],
+                order: Order::PLAIN,
+            },
+        ]
+    }
+}
+
+#[derive(Clone, Copy, Debug, PartialEq)]
+pub(crate) struct Thing {
+    pub shelf: i64,
+    pub name: i64,
+    pub place: i64,
+}
+
+impl Record<Shelves> for Thing {
+    ghost use Rattle.std.specs.Prelude.{[], ◌∷◌};
+    ghost use Rattle.std.proofs.Common.{rules};
+    ghost use Rattle.sqlite_value.specs.declared.value.Value.TheVariants.{Int};
+
+    ghost table = { 0 };
+
+    ghost cells = { λ thing. Int thing.shelf ∷ Int thing.name ∷ Int thing.place ∷ [] };
+
+    ghost listed = { Prim.search rules };
+
+    fn table() -> u32 {
+        0
+    }
+
+    fn write(&self, row: &mut Row) -> Result<(), AllocError> {
+        row.push(ValueRef::Int(self.shelf))?;
+        row.push(ValueRef::Int(self.name))?;
+        row.push(ValueRef::Int(self.place))
+    }
+
+    fn read(columns: &mut Columns<'_>) -> Result<Thing, StoreError> {
+        Ok(Thing {
+            shelf: columns.integer()?,
+            name: columns.integer()?,
+            place: columns.integer()?,
+        })
+    }
+}
+
+pub(crate) struct ByName;
+
+impl Key<Shelves> for ByName {
+    ghost use Rattle.std.specs.Prelude.{[], ◌∷◌};
+    ghost use Rattle.std.proofs.Common.{rules};
+    ghost use Rattle.sqlite_value.specs.Keys.{plain};
+
+    type Of = Thing;
+
+    ghost shape = { record { tree = 1; table = 0; columns = 1 ∷ 2 ∷ []; order = plain } };
+
+    ghost listed = { Prim.search rules };
+
+    fn index() -> Index<'static> {
+        Index {
+            tree: 1,
+            table: 0,
+            columns: &[1, 2],
+            order: Order::PLAIN,
+        }
+    }
+}
+
+pub(crate) struct ByPlace;
+
+impl Key<Shelves> for ByPlace {
+    ghost use Rattle.std.specs.Prelude.{[], ◌∷◌};
+    ghost use Rattle.std.proofs.Common.{rules};
+    ghost use Rattle.sqlite_value.specs.Keys.{plain};
+
+    type Of = Thing;
+
+    ghost shape = { record { tree = 2; table = 0; columns = 1 ∷ 3 ∷ []; order = plain } };
+
+    ghost listed = { Prim.search rules };
+
+    fn index() -> Index<'static> {
+        Index {
+            tree: 2,
+            table: 0,
+            columns: &[1, 3],
+            order: Order::PLAIN,
+        }
+    }
+}
+
+pub(crate) fn object(name: &'static str, shape: Shape, sql: &'static str) -> Object<'static> {
+    Object {
+        shape,
+        kind: if matches!(shape, Shape::Table) {
+            "table"
+        } else {
+            "index"
+        },
+        name,
+        table: "thing",
+        reals: 0,
+        sql: Some(sql),
+    }
+}
+
+pub(crate) fn store(alloc: Global) -> Result<MemStore, Fail> {
+    Ok(MemStore::new(
+        alloc,
+        &[
+            object(
+                "thing",
+                Shape::Table,
+                "CREATE TABLE thing (shelf, name, place)",
+            ),
+            object(
+                "by_name",
+                Shape::Index(Order::PLAIN),
+                "CREATE INDEX by_name ON thing (shelf, name)",
+            ),
+            object(
+                "by_place",
+                Shape::Index(Order::PLAIN),
+                "CREATE INDEX by_place ON thing (shelf, place)",
+            ),
+        ],
+    )?)
+}
+
+pub(crate) fn things(alloc: Global) -> Result<Committed<MemStore, Shelves>, Fail> {
+    Committed::over(alloc, store(alloc)?).map_err(|_| Fail::from(StoreError::Broken))
+}
+
+pub(crate) fn begin(
+    tables: Committed<MemStore, Shelves>,
+) -> Result<Transaction<MemStore, Shelves>, Fail> {
+    tables.begin().map_err(|_| Fail::from(StoreError::Broken))
+}
+
+pub(crate) fn numbers(alloc: Global, numbers: &[i64]) -> Result<Row, AllocError> {
+    let mut row = Row::new(alloc);
+    for number in numbers {
+        row.push(ValueRef::Int(*number))?;
+    }
+    Ok(row)
+}
+
+pub(crate) fn placed(shelf: i64, name: i64, place: i64) -> Thing {
+    Thing { shelf, name, place }
+}
