@@ -39,6 +39,7 @@ from refusals import refused
 from wrong_bodies import of_the_gate, one_of_each_file
 
 TOP = pathlib.Path(__file__).resolve().parent.parent
+MODES = "prove", "tests", "must-fail"
 FILES = "src", "specs", "proofs", "must-fail", "stdin", "stdout", "args", "status", "data"
 
 
@@ -240,9 +241,11 @@ def leave_program(gate):
 
 
 def main(words):
+    mode, *asked = words or [""]
+    if mode not in MODES:
+        sys.exit(__doc__)
     rt = toolchain.rt()
     rt.rtlib.stop = rt.stop
-    mode, *asked = words
     os.chdir(TOP)
     found = {it.name: it for it in rt.rtlib.crates_below(str(TOP / "crates"))}
     of_tests = [name for name, it in found.items() if it.has_tests()]
