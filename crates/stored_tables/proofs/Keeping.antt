@@ -4,12 +4,10 @@ use Rattle.std.proofs.lemmas.Result.{IfOk-weaker}
 use Rattle.records.specs.declared.unavailable.Unavailable.{Unavailable}
 use Rattle.records.specs.Machine.{Machine}
 use Rattle.chain.specs.Tables.{State as Meant, Leaves, LooksUp, same}
-use Rattle.sqlite_trees.specs.declared.store.Store.{Ghosts}
 use Rattle.sqlite.specs.Effect.{Database}
 use Rattle.sqlite.specs.State.{State, Savepoint, HasCleanDisk, IsUnchanged}
-use Rattle.sqlite.specs.Held.{Held, state}
 use Rattle.sqlite_trees.specs.Tree.{Trees}
-use Rattle.ledger_sql.specs.Calls.{LeavesOver, Changes, FindsRows, Learns, OverLedger}
+use Rattle.ledger_sql.specs.Calls.{LeavesOver, LeavesChanged, LeavesFound, LeavesLearnt, OverLedger}
 use Rattle.ledger_sql.specs.Effects.{IsLedger}
 use Rattle.ledger_sql.specs.Frames.{Live, Follows}
 use Rattle.stored_tables.specs.BatchLaws.{clean_before, live_before, follows_then, rest_itself}
@@ -49,36 +47,36 @@ same_batch tenant old new is was = record {
 pub same_rest : (tenant : ℤ) (old new : State) → IsUnchanged old new → IsTrue new.in_transaction → IsTrue old.in_transaction × KeepsRest tenant old.now new.now
 same_rest tenant old new is mode = (sym is.0.mode ∙ mode, subst (KeepsRest tenant old.now) (sym is.0.now_is) (rest_itself tenant old.now))
 
-module _ {S : Type 0} (store : Ghosts S) (tenant : ℤ) (old new : Held S) where
-  pub reads : {X : Type 0} (x : X) → IsInOwnBatch tenant (state store old) → Follows (state store old) (state store new) → (HasCleanDisk (state store new) → IsUnchanged (state store old) (state store new))
-      → Leaves {S = Held S} {X = X} (batch_meaning store tenant) old new (Ok x) same
+module _ {T : Type 0} (state : T → State) (tenant : ℤ) (old new : T) where
+  pub reads : {X : Type 0} (x : X) → IsInOwnBatch tenant (state old) → Follows (state old) (state new) → (HasCleanDisk (state new) → IsUnchanged (state old) (state new))
+      → Leaves {S = T} {X = X} (batch_meaning state tenant) old new (Ok x) same
   reads x usable follows is = record {
-    state = λ live. same_shown tenant (state store old) (state store new) (is live.0);
-    usable = λ clean. same_batch tenant (state store old) (state store new) (is clean) (usable (clean_before _ _ follows clean));
+    state = λ live. same_shown tenant (state old) (state new) (is live.0);
+    usable = λ clean. same_batch tenant (state old) (state new) (is clean) (usable (clean_before _ _ follows clean));
     undone = λ live. tt;
-    follows = record { calls = follows; inside = λ live. same_rest tenant (state store old) (state store new) (is live.0) };
+    follows = record { calls = follows; inside = λ live. same_rest tenant (state old) (state new) (is live.0) };
   }
 
-  pub gives_up : {X : Type 0} (mid : Held S) (cause : Unavailable) (change : Meant → Meant) → Follows (state store old) (state store mid) → LeavesOver (state store mid) (state store new)
-      → Leaves {S = Held S} {X = X} (batch_meaning store tenant) old new (Err cause) change
+  pub gives_up : {X : Type 0} (mid : T) (cause : Unavailable) (change : Meant → Meant) → Follows (state old) (state mid) → LeavesOver (state mid) (state new)
+      → Leaves {S = T} {X = X} (batch_meaning state tenant) old new (Err cause) change
   gives_up mid cause change f end = record {
     state = λ live. tt;
     usable = tt;
-    undone = undone tenant (state store old) (state store mid) (state store new) f end;
+    undone = undone tenant (state old) (state mid) (state new) f end;
     follows = record {
-      calls = follows_then (state store old) (state store mid) (state store new) f end.follows;
+      calls = follows_then (state old) (state mid) (state new) f end.follows;
       inside = λ live mode. absurd (let e : false ≡ true = sym (end.over live).mode ∙ mode in cc);
     };
   }
 
   -- before a call the tables were a ledger's, with the rows of the tenant's machine
-  pub tenant_before : IsInOwnBatch tenant (state store old) → Follows (state store old) (state store new) → HasCleanDisk (state store new) → HoldsTenant tenant (state store old)
+  pub tenant_before : IsInOwnBatch tenant (state old) → Follows (state old) (state new) → HasCleanDisk (state new) → HoldsTenant tenant (state old)
   tenant_before usable follows clean =
       let batch = usable (clean_before _ _ follows clean) in
       record { schema = batch.now.ledger; holds = batch.now.holds }
 
-  pub held_before : IsInOwnBatch tenant (state store old) → Follows (state store old) (state store new) → Live (state store new)
-      → HoldsMachine tenant (shown tenant (state store old)).now (state store old).now.trees
+  pub held_before : IsInOwnBatch tenant (state old) → Follows (state old) (state new) → Live (state new)
+      → HoldsMachine tenant (shown tenant (state old)).now (state old).now.trees
   unfolding shown
   held_before usable follows live = (usable (clean_before _ _ follows live.0)).now.holds
 
@@ -90,59 +88,59 @@ still_holds tenant old new is had = record {
 }
 
 -- a call that tells of the machine what is so, and gives up where it failed
-pub looks_up : {S X : Type 0} (store : Ghosts S) (tenant : ℤ) (old mid new : Held S) (IsSo : Machine → X → Type 0) (given result : Result X Unavailable) → IsInOwnBatch tenant (state store old)
-    → LearnsOf tenant IsSo store old mid given → HandsOn store given mid new result → LooksUp (batch_meaning store tenant) IsSo old new result
+pub looks_up : {T X : Type 0} (state : T → State) (tenant : ℤ) (old mid new : T) (IsSo : Machine → X → Type 0) (given result : Result X Unavailable) → IsInOwnBatch tenant (state old)
+    → LearnsOf tenant IsSo (state old) (state mid) given → HandsOn state given mid new result → LooksUp (batch_meaning state tenant) IsSo old new result
 unfolding shown
-looks_up {S} {X} store tenant old mid new IsSo given result usable learns hands = subst (LooksUp (batch_meaning store tenant) IsSo old new) (sym hands.same) (at given learns hands.ends)
+looks_up {T} {X} state tenant old mid new IsSo given result usable learns hands = subst (LooksUp (batch_meaning state tenant) IsSo old new) (sym hands.same) (at given learns hands.ends)
   where
-    at : (given : Result X Unavailable) → LearnsOf tenant IsSo store old mid given → EndsIfFailed store given mid new → LooksUp (batch_meaning store tenant) IsSo old new given
+    at : (given : Result X Unavailable) → LearnsOf tenant IsSo (state old) (state mid) given → EndsIfFailed state given mid new → LooksUp (batch_meaning state tenant) IsSo old new given
     at (Ok x) learns ends =
-        subst (λ (end : Held S). LooksUp (batch_meaning store tenant) IsSo old end (Ok x)) (sym ends)
+        subst (λ (end : T). LooksUp (batch_meaning state tenant) IsSo old end (Ok x)) (sym ends)
         (record {
-          value = λ live. learns.ok live.0 (tenant_before store tenant old mid usable learns.reads.follows live.0);
-          leaves = reads store tenant old mid x usable learns.reads.follows learns.reads.same;
+          value = λ live. learns.ok live.0 (tenant_before state tenant old mid usable learns.reads.follows live.0);
+          leaves = reads state tenant old mid x usable learns.reads.follows learns.reads.same;
         })
-    at (Err e) learns ends = record { value = λ live. tt; leaves = gives_up store tenant old new mid e same learns.reads.follows ends }
+    at (Err e) learns ends = record { value = λ live. tt; leaves = gives_up state tenant old new mid e same learns.reads.follows ends }
 
 -- a call that leaves such tables where it did not fail, and gives up where it failed
-pub leaves_or_over : {S X : Type 0} (store : Ghosts S) (tenant : ℤ) (old mid new : Held S) (change : Meant → Meant) (Is : Type 0) (given result : Result X Unavailable)
-    → Follows (state store old) (state store mid) → (HasCleanDisk (state store mid) → OnOk given Is) → HandsOn store given mid new result
-    → ((x : X) → (HasCleanDisk (state store mid) → Is) → Leaves {S = Held S} {X = X} (batch_meaning store tenant) old mid (Ok x) change)
-    → Leaves {S = Held S} {X = X} (batch_meaning store tenant) old new result change
-leaves_or_over {S} {X} store tenant old mid new change Is given result follows ok hands left = subst (λ (r : Result X Unavailable). Leaves {S = Held S} {X = X} (batch_meaning store tenant) old new r change) (sym hands.same) (at given ok hands.ends)
+pub leaves_or_over : {T X : Type 0} (state : T → State) (tenant : ℤ) (old mid new : T) (change : Meant → Meant) (Is : Type 0) (given result : Result X Unavailable)
+    → Follows (state old) (state mid) → (HasCleanDisk (state mid) → OnOk given Is) → HandsOn state given mid new result
+    → ((x : X) → (HasCleanDisk (state mid) → Is) → Leaves {S = T} {X = X} (batch_meaning state tenant) old mid (Ok x) change)
+    → Leaves {S = T} {X = X} (batch_meaning state tenant) old new result change
+leaves_or_over {T} {X} state tenant old mid new change Is given result follows ok hands left = subst (λ (r : Result X Unavailable). Leaves {S = T} {X = X} (batch_meaning state tenant) old new r change) (sym hands.same) (at given ok hands.ends)
   where
-    at : (given : Result X Unavailable) → (HasCleanDisk (state store mid) → OnOk given Is) → EndsIfFailed store given mid new → Leaves {S = Held S} {X = X} (batch_meaning store tenant) old new given change
-    at (Ok x) ok ends = subst (λ (end : Held S). Leaves {S = Held S} {X = X} (batch_meaning store tenant) old end (Ok x) change) (sym ends) (left x ok)
-    at (Err e) ok ends = gives_up store tenant old new mid e change follows ends
+    at : (given : Result X Unavailable) → (HasCleanDisk (state mid) → OnOk given Is) → EndsIfFailed state given mid new → Leaves {S = T} {X = X} (batch_meaning state tenant) old new given change
+    at (Ok x) ok ends = subst (λ (end : T). Leaves {S = T} {X = X} (batch_meaning state tenant) old end (Ok x) change) (sym ends) (left x ok)
+    at (Err e) ok ends = gives_up state tenant old new mid e change follows ends
 
-module _ {S X : Type 0} (store : Ghosts S) (tenant : ℤ) (old new : Held S) (Answer : Trees → X → Type 0) (IsSo : Machine → X → Type 0) (result : Result X Unavailable) where
+module _ {T X : Type 0} (state : T → State) (tenant : ℤ) (old new : T) (Answer : Trees → X → Type 0) (IsSo : Machine → X → Type 0) (result : Result X Unavailable) where
   -- what is found in a ledger's tables tells of the tenant's machine
-  pub found : (Fits : X → Type 0) → ((m : Machine) (trees : Trees) (x : X) → HoldsMachine tenant m trees → Fits x → Answer trees x → IsSo m x) → FindsRows Fits Answer store old new result
-      → LearnsOf tenant IsSo store old new result
+  pub found : (Fits : X → Type 0) → ((m : Machine) (trees : Trees) (x : X) → HoldsMachine tenant m trees → Fits x → Answer trees x → IsSo m x) → LeavesFound Fits Answer (state old) (state new) result
+      → LearnsOf tenant IsSo (state old) (state new) result
   found Fits so finds = record {
     ok = λ clean tenant_there. at result finds.fits (finds.ok clean tenant_there.schema) tenant_there.holds;
     reads = finds.reads;
   }
     where
-      at : (r : Result X Unavailable) → IfOk r Fits → IfOk r (Answer (state store old).now.trees) → HoldsMachine tenant (machine_of tenant (state store old).now.trees) (state store old).now.trees → IfOk r (IsSo (machine_of tenant (state store old).now.trees))
+      at : (r : Result X Unavailable) → IfOk r Fits → IfOk r (Answer (state old).now.trees) → HoldsMachine tenant (machine_of tenant (state old).now.trees) (state old).now.trees → IfOk r (IsSo (machine_of tenant (state old).now.trees))
       at (Ok x) fits answer holds = so _ _ x holds fits answer
       at (Err e) fits answer holds = tt
 
   -- so does what is learnt of them
-  pub learnt : ((m : Machine) (trees : Trees) (x : X) → HoldsMachine tenant m trees → Answer trees x → IsSo m x) → Learns OverLedger Answer store old new result → LearnsOf tenant IsSo store old new result
+  pub learnt : ((m : Machine) (trees : Trees) (x : X) → HoldsMachine tenant m trees → Answer trees x → IsSo m x) → LeavesLearnt OverLedger Answer (state old) (state new) result → LearnsOf tenant IsSo (state old) (state new) result
   learnt so learns = record {
-    ok = λ clean tenant_there. IfOk-weaker result (Answer (state store old).now.trees) (IsSo (machine_of tenant (state store old).now.trees)) (λ x. so (machine_of tenant (state store old).now.trees) (state store old).now.trees x tenant_there.holds) (learns.ok clean tenant_there.schema);
+    ok = λ clean tenant_there. IfOk-weaker result (Answer (state old).now.trees) (IsSo (machine_of tenant (state old).now.trees)) (λ x. so (machine_of tenant (state old).now.trees) (state old).now.trees x tenant_there.holds) (learns.ok clean tenant_there.schema);
     reads = learns.reads;
   }
 
 -- a call of several steps whose effect comes of what is so before it
-pub changes : {S X : Type 0} (store : Ghosts S) (old new : Held S) (result : Result X Unavailable) (Is : Type 0) (Effect : State → State → Type 0) → (HasCleanDisk (state store old) → Is) → Follows (state store old) (state store new)
-    → (Is → HasCleanDisk (state store new) → OnOk result (Effect (state store old) (state store new))) → Changes Effect store old new result
-changes store old new result Is Effect is follows ok = record { ok = λ clean. ok (is (clean_before _ _ follows clean)) clean; follows = follows }
+pub changes : {T X : Type 0} (state : T → State) (old new : T) (result : Result X Unavailable) (Is : Type 0) (Effect : State → State → Type 0) → (HasCleanDisk (state old) → Is) → Follows (state old) (state new)
+    → (Is → HasCleanDisk (state new) → OnOk result (Effect (state old) (state new))) → LeavesChanged Effect (state old) (state new) result
+changes state old new result Is Effect is follows ok = record { ok = λ clean. ok (is (clean_before _ _ follows clean)) clean; follows = follows }
 
 -- so it is over two steps
-pub changes_twice : {S X : Type 0} (store : Ghosts S) (old mid new : Held S) (result : Result X Unavailable) (Is : Type 0) (Effect : State → State → Type 0) → (HasCleanDisk (state store old) → Is) → Follows (state store old) (state store mid)
-    → Follows (state store mid) (state store new) → (Is → HasCleanDisk (state store mid) → HasCleanDisk (state store new) → OnOk result (Effect (state store old) (state store new))) → Changes Effect store old new result
-changes_twice store old mid new result Is Effect is first second ok =
-    changes store old new result Is Effect is (follows_then (state store old) (state store mid) (state store new) first second)
+pub changes_twice : {T X : Type 0} (state : T → State) (old mid new : T) (result : Result X Unavailable) (Is : Type 0) (Effect : State → State → Type 0) → (HasCleanDisk (state old) → Is) → Follows (state old) (state mid)
+    → Follows (state mid) (state new) → (Is → HasCleanDisk (state mid) → HasCleanDisk (state new) → OnOk result (Effect (state old) (state new))) → LeavesChanged Effect (state old) (state new) result
+changes_twice state old mid new result Is Effect is first second ok =
+    changes state old new result Is Effect is (follows_then (state old) (state mid) (state new) first second)
     (λ before clean. ok before (clean_before _ _ second clean) clean)

@@ -2,10 +2,8 @@
 use Rattle.std.proofs.Common.{◌≡◌, ℤ, inl, inr, List, [], ◌∷◌, ◌++◌, None, Result, Ok, Err, OnOk, OnErr, IsSome, IsTrue, true, false, refl, sym, ap, subst, subst₂, ◌∙◌}
 use Rattle.records.specs.declared.unavailable.Unavailable.{Unavailable}
 use Rattle.chain.specs.Tables.{State as Meant, Leaves, marking, marked_or, at_mark, unmarked}
-use Rattle.sqlite_trees.specs.declared.store.Store.{Ghosts}
 use Rattle.sqlite.specs.Effect.{Database}
 use Rattle.sqlite.specs.State.{State, Savepoint, HasCleanDisk}
-use Rattle.sqlite.specs.Held.{Held, state}
 use Rattle.ledger_sql.specs.Frames.{Live, Follows}
 use Rattle.ledger_sql.specs.Stages.{the_mark, IsMarked, HasMarked, HasGoneBack, HasReleased}
 use Rattle.stored_tables.specs.InBatch.{HoldsOwn, KeepsRest, IsInBatchOf, AreMarks, IsInOwnBatch, shown, marked_in}
@@ -76,85 +74,85 @@ module _ (tenant : ℤ) (old new : State) where
     marks = inl (has.marks [] db marks);
   }
 
-module _ {S : Type 0} (store : Ghosts S) (tenant : ℤ) (old : Held S) (usable : IsInOwnBatch tenant (state store old)) where
+module _ {T : Type 0} (state : T → State) (tenant : ℤ) (old : T) (usable : IsInOwnBatch tenant (state old)) where
   -- in a batch a disk that was honest is live
-  pub live_now : HasCleanDisk (state store old) → Live (state store old)
+  pub live_now : HasCleanDisk (state old) → Live (state old)
   live_now clean = (clean, (usable clean).is_open)
 
-  pub inside : HasCleanDisk (state store old) → IsTrue (state store old).in_transaction
+  pub inside : HasCleanDisk (state old) → IsTrue (state old).in_transaction
   inside clean = (usable clean).mode
 
-  pub has_mark : (Live (state store old) → IsSome (shown tenant (state store old)).marked) → HasCleanDisk (state store old) → IsMarked (state store old)
+  pub has_mark : (Live (state old) → IsSome (shown tenant (state old)).marked) → HasCleanDisk (state old) → IsMarked (state old)
   has_mark some clean =
-      let mark = mark_of tenant (state store old) (state store old) (usable clean) (some (live_now clean)) in
+      let mark = mark_of tenant (state old) (state old) (usable clean) (some (live_now clean)) in
       ([], mark.0, record { mode = inside clean; marks = mark.1 })
 
-  module _ {X : Type 0} (x : X) (new : Held S) (follows : Follows (state store old) (state store new)) where
-    was_clean : HasCleanDisk (state store new) → HasCleanDisk (state store old)
+  module _ {X : Type 0} (x : X) (new : T) (follows : Follows (state old) (state new)) where
+    was_clean : HasCleanDisk (state new) → HasCleanDisk (state old)
     was_clean clean = clean_before _ _ follows clean
 
-    stays : (state store new).now ≡ (state store old).now → KeepsRest tenant (state store old).now (state store new).now
-    stays same = subst (KeepsRest tenant (state store old).now) (sym same) (rest_itself tenant (state store old).now)
+    stays : (state new).now ≡ (state old).now → KeepsRest tenant (state old).now (state new).now
+    stays same = subst (KeepsRest tenant (state old).now) (sym same) (rest_itself tenant (state old).now)
 
-    pub marks : (Live (state store old) → (shown tenant (state store old)).marked ≡ None) → (HasCleanDisk (state store new) → HasMarked (state store old) (state store new))
-        → Leaves {S = Held S} {X = X} (batch_meaning store tenant) old new (Ok x) marking
+    pub marks : (Live (state old) → (shown tenant (state old)).marked ≡ None) → (HasCleanDisk (state new) → HasMarked (state old) (state new))
+        → Leaves {S = T} {X = X} (batch_meaning state tenant) old new (Ok x) marking
     marks none has = record {
-      state = λ live. marked_state tenant (state store old) (state store new) (none (live_now (was_clean live.0))) (has live.0);
-      usable = λ clean. marked_batch tenant (state store old) (state store new) (none (live_now (was_clean clean))) (usable (was_clean clean)) (has clean);
+      state = λ live. marked_state tenant (state old) (state new) (none (live_now (was_clean live.0))) (has live.0);
+      usable = λ clean. marked_batch tenant (state old) (state new) (none (live_now (was_clean clean))) (usable (was_clean clean)) (has clean);
       undone = λ live. tt;
       follows = record { calls = follows; inside = λ live mode. (inside (was_clean live.0), stays (has live.0).now) };
     }
 
-    module _ (some : Live (state store old) → IsSome (shown tenant (state store old)).marked) where
-      the_one : HasCleanDisk (state store new) → (db : Database) × ((state store old).marks ≡ the_mark db ∷ []) × HoldsOwn tenant db × KeepsRest tenant (state store old).now db
-      the_one clean = mark_of tenant (state store old) (state store old) (usable (was_clean clean)) (some (live_now (was_clean clean)))
+    module _ (some : Live (state old) → IsSome (shown tenant (state old)).marked) where
+      the_one : HasCleanDisk (state new) → (db : Database) × ((state old).marks ≡ the_mark db ∷ []) × HoldsOwn tenant db × KeepsRest tenant (state old).now db
+      the_one clean = mark_of tenant (state old) (state old) (usable (was_clean clean)) (some (live_now (was_clean clean)))
 
-      pub goes_back : (HasCleanDisk (state store new) → HasGoneBack (state store old) (state store new))
-          → Leaves {S = Held S} {X = X} (batch_meaning store tenant) old new (Ok x) (λ s. record s { now = marked_or s.now s.marked })
+      pub goes_back : (HasCleanDisk (state new) → HasGoneBack (state old) (state new))
+          → Leaves {S = T} {X = X} (batch_meaning state tenant) old new (Ok x) (λ s. record s { now = marked_or s.now s.marked })
       goes_back has = record {
-        state = λ live. let mark = the_one live.0 in back_state tenant (state store old) (state store new) mark.0 mark.1 (has live.0);
-        usable = λ clean. let mark = the_one clean in back_batch tenant (state store old) (state store new) mark.0 mark.1 mark.2 (has clean);
+        state = λ live. let mark = the_one live.0 in back_state tenant (state old) (state new) mark.0 mark.1 (has live.0);
+        usable = λ clean. let mark = the_one clean in back_batch tenant (state old) (state new) mark.0 mark.1 mark.2 (has clean);
         undone = λ live. tt;
-        follows = record { calls = follows; inside = λ live mode. let mark = the_one live.0 in (inside (was_clean live.0), subst (KeepsRest tenant (state store old).now) (sym ((has live.0).back [] mark.0 mark.1)) mark.3) };
+        follows = record { calls = follows; inside = λ live mode. let mark = the_one live.0 in (inside (was_clean live.0), subst (KeepsRest tenant (state old).now) (sym ((has live.0).back [] mark.0 mark.1)) mark.3) };
       }
 
-      pub releases : (HasCleanDisk (state store new) → HasReleased (state store old) (state store new))
-          → Leaves {S = Held S} {X = X} (batch_meaning store tenant) old new (Ok x) unmarked
+      pub releases : (HasCleanDisk (state new) → HasReleased (state old) (state new))
+          → Leaves {S = T} {X = X} (batch_meaning state tenant) old new (Ok x) unmarked
       releases has = record {
-        state = λ live. let mark = the_one live.0 in released_state tenant (state store old) (state store new) mark.0 mark.1 (has live.0);
-        usable = λ clean. let mark = the_one clean in released_batch tenant (state store old) (state store new) mark.0 mark.1 (usable (was_clean clean)) (has clean);
+        state = λ live. let mark = the_one live.0 in released_state tenant (state old) (state new) mark.0 mark.1 (has live.0);
+        usable = λ clean. let mark = the_one clean in released_batch tenant (state old) (state new) mark.0 mark.1 (usable (was_clean clean)) (has clean);
         undone = λ live. tt;
         follows = record { calls = follows; inside = λ live mode. (inside (was_clean live.0), stays (has live.0).now) };
       }
 
 -- a call that has gone back to the mark, which stays
-abbrev pub GoesBack : {S X : Type 0} → Ghosts S → ℤ → Held S → Held S → Result X Unavailable → Type 0
-GoesBack store tenant old new result = Leaves (batch_meaning store tenant) old new result (λ s. record s { now = marked_or s.now s.marked })
+abbrev pub GoesBack : {T X : Type 0} → (T → State) → ℤ → T → T → Result X Unavailable → Type 0
+GoesBack state tenant old new result = Leaves (batch_meaning state tenant) old new result (λ s. record s { now = marked_or s.now s.marked })
 
-module _ {S X : Type 0} (store : Ghosts S) (tenant : ℤ) (a b : Held S) (given : Result X Unavailable) (back : GoesBack store tenant a b given) where
+module _ {T X : Type 0} (state : T → State) (tenant : ℤ) (a b : T) (given : Result X Unavailable) (back : GoesBack state tenant a b given) where
   -- where it failed, so has the whole
-  pub back_failed : {Y : Type 0} (why : Unavailable) (result : Result Y Unavailable) → given ≡ Err why → result ≡ Err why → Leaves (batch_meaning store tenant) a b result at_mark
+  pub back_failed : {Y : Type 0} (why : Unavailable) (result : Result Y Unavailable) → given ≡ Err why → result ≡ Err why → Leaves (batch_meaning state tenant) a b result at_mark
   back_failed why (Ok y) fails failed = absurd (cc)
   back_failed why (Err e) fails failed = record {
     state = λ live. tt;
     usable = tt;
-    undone = λ live. subst (λ (r : Result X Unavailable). OnErr r ((shown tenant (state store b)).now ≡ (shown tenant (state store a)).begun)) fails (back.undone live);
+    undone = λ live. subst (λ (r : Result X Unavailable). OnErr r ((shown tenant (state b)).now ≡ (shown tenant (state a)).begun)) fails (back.undone live);
     follows = back.follows;
   }
 
   module _ (x : X) (is : given ≡ Ok x) where
     -- where it did not, calls are allowed, and the mark is there
-    pub back_usable : IsInOwnBatch tenant (state store b)
-    back_usable = subst (λ (r : Result X Unavailable). OnOk r (IsInOwnBatch tenant (state store b))) is back.usable
+    pub back_usable : IsInOwnBatch tenant (state b)
+    back_usable = subst (λ (r : Result X Unavailable). OnOk r (IsInOwnBatch tenant (state b))) is back.usable
 
-    back_shown : Live (state store b) → shown tenant (state store b) ≡ record (shown tenant (state store a)) { now = marked_or (shown tenant (state store a)).now (shown tenant (state store a)).marked }
-    back_shown live = subst (λ (r : Result X Unavailable). OnOk r (shown tenant (state store b) ≡ record (shown tenant (state store a)) { now = marked_or (shown tenant (state store a)).now (shown tenant (state store a)).marked })) is (back.state live)
+    back_shown : Live (state b) → shown tenant (state b) ≡ record (shown tenant (state a)) { now = marked_or (shown tenant (state a)).now (shown tenant (state a)).marked }
+    back_shown live = subst (λ (r : Result X Unavailable). OnOk r (shown tenant (state b) ≡ record (shown tenant (state a)) { now = marked_or (shown tenant (state a)).now (shown tenant (state a)).marked })) is (back.state live)
 
-    pub back_marked : (Live (state store a) → IsSome (shown tenant (state store a)).marked) → Live (state store b) → IsSome (shown tenant (state store b)).marked
+    pub back_marked : (Live (state a) → IsSome (shown tenant (state a)).marked) → Live (state b) → IsSome (shown tenant (state b)).marked
     back_marked some live = subst IsSome (sym (ap (λ (s : Meant). s.marked) (back_shown live))) (some (live_before _ _ back.follows.calls live))
 
     -- and the mark is closed behind it
-    pub back_closed : {Y : Type 0} (c : Held S) (result : Result Y Unavailable) → Leaves (batch_meaning store tenant) b c result unmarked → Leaves (batch_meaning store tenant) a c result at_mark
+    pub back_closed : {Y : Type 0} (c : T) (result : Result Y Unavailable) → Leaves (batch_meaning state tenant) b c result unmarked → Leaves (batch_meaning state tenant) a c result at_mark
     back_closed c (Ok y) closed = record {
       state = λ live. closed.state live ∙ ap unmarked (back_shown (live_before _ _ closed.follows.calls live));
       usable = closed.usable;

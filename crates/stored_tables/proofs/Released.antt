@@ -3,10 +3,8 @@ use Rattle.std.proofs.Common.{◌≡◌, ℕ, ℤ, true, false, List, [], ◌∷
 use Rattle.std.specs.List.Sorted.{IsPermutation}
 use Rattle.std.proofs.lemmas.List.Sorted.{IsPermutation-trans, IsPermutation-append_right}
 use Rattle.std.proofs.lemmas.Result.{on_ok_weaker}
-use Rattle.sqlite_trees.specs.declared.store.Store.{Ghosts}
 use Rattle.sqlite.specs.Effect.{Database}
 use Rattle.sqlite.specs.State.{State, HasCleanDisk, IsUnchanged}
-use Rattle.sqlite.specs.Held.{Held, state}
 use Rattle.records.specs.declared.balances.Balances.{Balances}
 use Rattle.records.specs.declared.transfer.Transfer.{Transfer}
 use Rattle.records.specs.declared.unavailable.Unavailable.{Unavailable}
@@ -19,7 +17,7 @@ use Rattle.rows.specs.Keyed.{row_with}
 use Rattle.rows.specs.Prescribed.{rows_for}
 use Rattle.rows.specs.TypedRows.{TypedRows}
 use Rattle.rows.specs.Settling.{rows_when, rows_released, due_ids, is_due_row, IsNextRelease}
-use Rattle.ledger_sql.specs.Calls.{Changes}
+use Rattle.ledger_sql.specs.Calls.{LeavesChanged}
 use Rattle.ledger_sql.specs.Effects.{IsInside}
 use Rattle.ledger_sql.specs.Frames.{Follows}
 use Rattle.stored_tables.specs.BatchLaws.{clean_before, follows_then, others_itself, others_then}
@@ -170,9 +168,9 @@ pub record MakesRoom (tenant : ℤ) (was is : Kept) (s0 s1 : State) : Type 0 whe
   pub follows : Follows s0 s1
 
 -- the next one is released behind it
-pub room_then : {S : Type 0} (store : Ghosts S) (tenant : ℤ) (clock id : ℕ) (was mid is : Kept) (a b c : Held S) (r : Result (Unit {0}) Unavailable) → MakesRoom tenant was mid (state store a) (state store b) → Changes (ReleasesOne tenant clock id mid is) store b c r
-    → Changes (ReleasesOne tenant clock id was is) store a c r
-room_then store tenant clock id was mid is a b c r room step = record {
+pub room_then : {T : Type 0} (state : T → State) (tenant : ℤ) (clock id : ℕ) (was mid is : Kept) (a b c : T) (r : Result (Unit {0}) Unavailable) → MakesRoom tenant was mid (state a) (state b) → LeavesChanged (ReleasesOne tenant clock id mid is) (state b) (state c) r
+    → LeavesChanged (ReleasesOne tenant clock id was is) (state a) (state c) r
+room_then state tenant clock id was mid is a b c r room step = record {
   ok = λ clean. roomed tenant clock id was mid is _ _ _ r (room.flushes (clean_before _ _ step.follows clean)) (step.ok clean);
   follows = follows_then _ _ _ room.follows step.follows;
 }

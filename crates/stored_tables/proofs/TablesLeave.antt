@@ -1,13 +1,11 @@
--- What a call on a connection leaves of the tables of a batch over it.
+-- What a call on a ledger's tables leaves of a batch over them.
 use Rattle.std.proofs.Common.{◌≡◌, ℕ, Result, Ok, Err, OnOk, refl}
 use Rattle.std.specs.BTreeSet.{contains}
 use Rattle.std.specs.declared.cmp.Ordering.{Ordering}
 use Rattle.records.specs.declared.unavailable.Unavailable.{Unavailable}
 use Rattle.records.specs.Machine.{Machine}
-use Rattle.chain.specs.Tables.{State, Meaning, Leaves, LooksUp}
-use Rattle.sqlite_trees.specs.declared.store.Store.{Ghosts}
-use Rattle.sqlite.specs.State.{HasCleanDisk}
-use Rattle.sqlite.specs.Held.{Held, state}
+use Rattle.chain.specs.Tables.{State as Meant, Meaning, Leaves, LooksUp}
+use Rattle.sqlite.specs.State.{State, HasCleanDisk}
 use Rattle.ledger_sql.specs.Frames.{Live, Follows}
 use Rattle.stored_tables.specs.declared.batch.Batch.{Batch}
 use Rattle.stored_tables.specs.BatchLaws.{live_before}
@@ -18,33 +16,33 @@ use Rattle.stored_tables.specs.Meaning.{batch_meaning, tables_meaning, HandsOn}
 use Rattle.stored_tables.proofs.Covering.{covered}
 use Rattle.stored_tables.proofs.Keeping.{leaves_or_over, looks_up}
 
-module _ {S X : Type 0} (store : Ghosts S) (cmp : ℕ × ℕ → ℕ × ℕ → Ordering) (tables : Batch S) (new : Held S) (result : Result X Unavailable) where
+module _ {T X : Type 0} (state : T → State) (cmp : ℕ × ℕ → ℕ × ℕ → Ordering) (batch : Batch T) (new : T) (result : Result X Unavailable) where
   -- the due times in memory stay, and cover what the call leaves
-  pub tables_left : (change : State → State) → Leaves (batch_meaning store tables.tenant.0) tables.conn.now new result change
-      → (Live (state store tables.conn.now) → CoversBatch (contains cmp tables.due.now) tables.past (change (shown tables.tenant.0 (state store tables.conn.now))))
-      → Leaves (tables_meaning store cmp) tables (record tables { conn = record tables.conn { now = new } }) result change
+  pub tables_left : (change : Meant → Meant) → Leaves (batch_meaning state batch.tenant.0) batch.tables.now new result change
+      → (Live (state batch.tables.now) → CoversBatch (contains cmp batch.due.now) batch.past (change (shown batch.tenant.0 (state batch.tables.now))))
+      → Leaves (tables_meaning state cmp) batch (record batch { tables = record batch.tables { now = new } }) result change
   tables_left change leaves covers = record {
     state = leaves.state;
-    usable = covered result _ _ _ _ _ _ leaves.usable leaves.state (λ live. covers (live_before (state store tables.conn.now) (state store new) leaves.follows.calls live));
+    usable = covered result _ _ _ _ _ _ leaves.usable leaves.state (λ live. covers (live_before (state batch.tables.now) (state new) leaves.follows.calls live));
     undone = leaves.undone;
     follows = (refl, refl, refl, λ key has. has, leaves.follows, refl);
   }
 
   -- a call that leaves the tenant's batch so where it did not fail, and gives up where it failed
-  pub tables_or_over : (change : State → State) (mid : Held S) (Is : Type 0) (given : Result X Unavailable) → Follows (state store tables.conn.now) (state store mid) → (HasCleanDisk (state store mid) → OnOk given Is) → HandsOn store given mid new result
-      → ((x : X) → (HasCleanDisk (state store mid) → Is) → Leaves {S = Held S} {X = X} (batch_meaning store tables.tenant.0) tables.conn.now mid (Ok x) change)
-      → (Live (state store tables.conn.now) → CoversBatch (contains cmp tables.due.now) tables.past (change (shown tables.tenant.0 (state store tables.conn.now))))
-      → Leaves (tables_meaning store cmp) tables (record tables { conn = record tables.conn { now = new } }) result change
-  tables_or_over change mid Is given follows ok hands left covers = tables_left change (leaves_or_over store tables.tenant.0 tables.conn.now mid new change Is given result follows ok hands left) covers
+  pub tables_or_over : (change : Meant → Meant) (mid : T) (Is : Type 0) (given : Result X Unavailable) → Follows (state batch.tables.now) (state mid) → (HasCleanDisk (state mid) → OnOk given Is) → HandsOn state given mid new result
+      → ((x : X) → (HasCleanDisk (state mid) → Is) → Leaves {S = T} {X = X} (batch_meaning state batch.tenant.0) batch.tables.now mid (Ok x) change)
+      → (Live (state batch.tables.now) → CoversBatch (contains cmp batch.due.now) batch.past (change (shown batch.tenant.0 (state batch.tables.now))))
+      → Leaves (tables_meaning state cmp) batch (record batch { tables = record batch.tables { now = new } }) result change
+  tables_or_over change mid Is given follows ok hands left covers = tables_left change (leaves_or_over state batch.tenant.0 batch.tables.now mid new change Is given result follows ok hands left) covers
 
   -- a call that tells of the machine what is so, and gives up where it failed
-  pub tables_looked_up : (mid : Held S) (IsSo : Machine → X → Type 0) (given : Result X Unavailable) → (tables_meaning store cmp).is_usable tables
-      → LearnsOf tables.tenant.0 IsSo store tables.conn.now mid given → HandsOn store given mid new result → LooksUp (tables_meaning store cmp) IsSo tables (record tables { conn = record tables.conn { now = new } }) result
+  pub tables_looked_up : (mid : T) (IsSo : Machine → X → Type 0) (given : Result X Unavailable) → (tables_meaning state cmp).is_usable batch
+      → LearnsOf batch.tenant.0 IsSo (state batch.tables.now) (state mid) given → HandsOn state given mid new result → LooksUp (tables_meaning state cmp) IsSo batch (record batch { tables = record batch.tables { now = new } }) result
   tables_looked_up mid IsSo given usable learns hands =
-      let told = looks_up store tables.tenant.0 tables.conn.now mid new IsSo given result usable.0 learns hands in
+      let told = looks_up state batch.tenant.0 batch.tables.now mid new IsSo given result usable.0 learns hands in
       record { value = told.value; leaves = tables_left (λ s. s) told.leaves usable.1 }
 
-module _ {S X Y : Type 0} (t : Meaning S) (a b : S) (IsSo : Machine → X → Type 0) (Is : Machine → Y → Type 0) where
+module _ {T X Y : Type 0} (t : Meaning T) (a b : T) (IsSo : Machine → X → Type 0) (Is : Machine → Y → Type 0) where
   -- what is told of an answer tells of what is made of it
   pub told_more : (x : X) (y : Y) → ((m : Machine) → IsSo m x → Is m y) → LooksUp t IsSo a b (Ok x) → LooksUp t Is a b (Ok y)
   told_more x y tells told = record {

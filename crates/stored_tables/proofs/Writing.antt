@@ -1,10 +1,8 @@
 -- Moves of a tenant's rows one after the other, and the batch after them.
 use Rattle.std.proofs.Common.{◌≡◌, ℤ, inl, inr, List, Ok, refl, sym, ap, subst, ◌∙◌}
 use Rattle.sqlite_trees.specs.Tree.{Trees}
-use Rattle.sqlite_trees.specs.declared.store.Store.{Ghosts}
 use Rattle.sqlite.specs.Effect.{Database}
 use Rattle.sqlite.specs.State.{State, Savepoint, HasCleanDisk, IsUnchanged}
-use Rattle.sqlite.specs.Held.{Held, state}
 use Rattle.records.specs.Machine.{Machine}
 use Rattle.records.specs.Valid.{IsValid}
 use Rattle.chain.specs.Tables.{Leaves, on_now}
@@ -107,23 +105,23 @@ module _ (held_machines : HeldMachines) (tenant : ℤ) (can : TypedRows → Type
   }
 
 -- what a write leaves of the tenant's tables
-pub writes_leave : {S : Type 0} (store : Ghosts S) (tenant : ℤ) (old new : Held S) {X : Type 0} (x : X) (can : TypedRows → Type 0) (change : TypedRows → TypedRows) (step : Machine → Machine)
-    → HeldMachines → IsInOwnBatch tenant (state store old) → Follows (state store old) (state store new) → (HasCleanDisk (state store new) → ChangesRows tenant can change (state store old) (state store new))
-    → (Live (state store old) → IsValid (shown tenant (state store old)).now → IsChange can change step (shown tenant (state store old)).now)
-    → Leaves {S = Held S} {X = X} (batch_meaning store tenant) old new (Ok x) (on_now step)
+pub writes_leave : {T : Type 0} (state : T → State) (tenant : ℤ) (old new : T) {X : Type 0} (x : X) (can : TypedRows → Type 0) (change : TypedRows → TypedRows) (step : Machine → Machine)
+    → HeldMachines → IsInOwnBatch tenant (state old) → Follows (state old) (state new) → (HasCleanDisk (state new) → ChangesRows tenant can change (state old) (state new))
+    → (Live (state old) → IsValid (shown tenant (state old)).now → IsChange can change step (shown tenant (state old)).now)
+    → Leaves {S = T} {X = X} (batch_meaning state tenant) old new (Ok x) (on_now step)
 unfolding shown
-writes_leave store tenant old new x can change step held_machines usable follows w is =
-    let before = clean_before (state store old) (state store new) follows in
-    let batch = λ (clean : HasCleanDisk (state store new)). usable (before clean) in
-    let change_is = λ (clean : HasCleanDisk (state store new)). is (before clean, (batch clean).is_open) (batch clean).now.holds.valid in
+writes_leave state tenant old new x can change step held_machines usable follows w is =
+    let before = clean_before (state old) (state new) follows in
+    let batch = λ (clean : HasCleanDisk (state new)). usable (before clean) in
+    let change_is = λ (clean : HasCleanDisk (state new)). is (before clean, (batch clean).is_open) (batch clean).now.holds.valid in
     record {
       state = λ live.
-          shown_is tenant (state store new) _ _ _ (machine_after held_machines tenant can change step (state store old) (state store new) (batch live.0) (w live.0) (change_is live.0))
+          shown_is tenant (state new) _ _ _ (machine_after held_machines tenant can change step (state old) (state new) (batch live.0) (w live.0) (change_is live.0))
           (w live.0).inside.shown.committed_is (w live.0).inside.marks;
-      usable = λ clean. batch_after held_machines tenant can change step (state store old) (state store new) (batch clean) (w clean) (change_is clean);
+      usable = λ clean. batch_after held_machines tenant can change step (state old) (state new) (batch clean) (w clean) (change_is clean);
       undone = λ live. tt;
       follows = record {
         calls = follows;
-        inside = λ live mode. ((batch live.0).mode, rest_after held_machines tenant can change step (state store old) (state store new) (batch live.0) (w live.0) (change_is live.0));
+        inside = λ live mode. ((batch live.0).mode, rest_after held_machines tenant can change step (state old) (state new) (batch live.0) (w live.0) (change_is live.0));
       };
     }

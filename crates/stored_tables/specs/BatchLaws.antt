@@ -1,4 +1,4 @@
--- The laws of a tenant's tables over a connection.
+-- The laws of a tenant's tables.
 use Rattle.std.specs.Prelude.{◌≡◌, ℤ, refl}
 use Rattle.std.proofs.Common.{inl, ◌∙◌, sym, subst, arith}
 use Rattle.records.specs.Valid.{IsValid}
@@ -27,7 +27,7 @@ follows_itself a = record {
   unmarked = λ live none. none;
 }
 
--- a disk that has been honest so far was so before, and a connection that is live
+-- a disk that has been honest so far was so before, and a store that is live
 pub clean_before : (a b : State) → Follows a b → HasCleanDisk b → HasCleanDisk a
 clean_before a b f clean = omega (arith, f.survives.clean, clean)
 

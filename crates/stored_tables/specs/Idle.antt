@@ -1,16 +1,14 @@
--- What a connection has where a read tells what is so of a tenant.
+-- What a ledger's tables have where a read tells what is so of a tenant.
 use Rattle.std.specs.Prelude.{ℤ, IsTrue, Result}
 use Rattle.records.specs.declared.unavailable.Unavailable.{Unavailable}
 use Rattle.records.specs.Machine.{Machine}
-use Rattle.sqlite_trees.specs.declared.store.Store.{Ghosts}
-use Rattle.sqlite.specs.Held.{Held}
 use Rattle.sqlite.specs.State.{State}
-use Rattle.ledger_sql.specs.Calls.{Learns}
+use Rattle.ledger_sql.specs.Calls.{LeavesLearnt}
 use Rattle.ledger_sql.specs.Effects.{IsLedger}
 use Rattle.stored_tables.specs.Holds.{HoldsMachine}
 use Rattle.stored_tables.specs.MachineOf.{machine_of}
 
--- its store is open
+-- their store is open
 abbrev pub HasOpenStore : State → Type 0
 HasOpenStore s = IsTrue s.is_open
 
@@ -24,7 +22,7 @@ pub record HoldsTenant (tenant : ℤ) (s : State) : Type 0 where
   pub holds : HoldsMachine tenant (machine_at tenant s) s.now.trees
 
 -- a call that tells of such a tenant's machine what is so
-abbrev pub LearnsOf : {S X : Type 0} → ℤ → (Machine → X → Type 0) → Ghosts S → Held S → Held S
+abbrev pub LearnsOf : {X : Type 0} → ℤ → (Machine → X → Type 0) → State → State
     → Result X Unavailable → Type 0
-LearnsOf tenant IsSo store old new result =
-    Learns (HoldsTenant tenant) (λ trees. IsSo (machine_of tenant trees)) store old new result
+LearnsOf tenant IsSo old new result =
+    LeavesLearnt (HoldsTenant tenant) (λ trees. IsSo (machine_of tenant trees)) old new result

@@ -1,4 +1,4 @@
--- A connection in the batch of one tenant.
+-- A ledger's tables in the batch of one tenant.
 use Rattle.std.specs.Prelude.{◌≡◌, ◌⊎◌, ℤ, List, [], ◌∷◌, Option, Some, None, IsTrue}
 use Rattle.records.specs.Machine.{Machine}
 use Rattle.chain.specs.Tables.{State as Meant}

@@ -16,51 +16,50 @@ use crate::entries::{write_account, write_transfer};
 use crate::failing::or_give_up;
 use crate::laws::held_machines;
 use engine::endings_are_told;
-use ledger_sql::adding::add_failed;
+use ledger_tables::LedgerTables;
 use records::{Accepted, Account, Unavailable};
 use rows::{
     account_rows, changes_keep_same_rows, failed_rows, keys_are_distinct, rows_fit, single_rows,
     transfer_rows,
 };
-use sqlite::{Alter, Connection};
 use std::collections::BTreeSet;
 
 /// Keeps an account.
-pub(crate) fn accept_account<S: Alter>(
-    conn: &mut Connection<S>,
+pub(crate) fn accept_account<T: LedgerTables>(
+    tables: &mut T,
     tenant: TenantNumber,
     account: &Account,
 ) -> Result<(), Unavailable>
-    requires may { MayCall (batch_meaning S.Store tenant.0)
-        (λ s. IsNextAccount s.now account.now) conn.old }
+    requires may { MayCall (batch_meaning T.state tenant.0)
+        (λ s. IsNextAccount s.now account.now) tables.old }
     requires bounded { account.now.timestamp ≤ max_clock }
-    ensures { Leaves (batch_meaning S.Store tenant.0) conn.old conn.new result
+    ensures { Leaves (batch_meaning T.state tenant.0) tables.old tables.new result
         (on_now (λ m. with_account m account.now)) }
 {
     held_machines();
     account_rows();
-    let done = write_account(conn, tenant, account);
-    or_give_up(conn, done)
+    let done = write_account(tables, tenant, account);
+    or_give_up(tables, done)
 }
 
 /// Keeps a transfer, with the balances of its accounts and the state of the pending transfer that
 /// it ends. Where it is a pending one with a due time, the set has both first.
-pub(crate) fn accept_transfer<S: Alter>(
-    conn: &mut Connection<S>,
+pub(crate) fn accept_transfer<T: LedgerTables>(
+    tables: &mut T,
     due_times: &mut BTreeSet<(u64, u128)>,
     tenant: TenantNumber,
     accepted: &Accepted,
 ) -> Result<(), Unavailable>
-    requires may { MayCall (batch_meaning S.Store tenant.0)
-        (λ s. IsAccepted s.now accepted.now) conn.old }
+    requires may { MayCall (batch_meaning T.state tenant.0)
+        (λ s. IsAccepted s.now accepted.now) tables.old }
     requires times { HasBoundedTimes accepted.now.stored }
-    ensures leaves { Leaves (batch_meaning S.Store tenant.0) conn.old conn.new result
+    ensures leaves { Leaves (batch_meaning T.state tenant.0) tables.old tables.new result
         (on_now (λ m. with_transfer m accepted.now.stored)) }
-    ensures covers { (batch_meaning S.Store tenant.0).is_live conn.new → OnOk result
+    ensures covers { (batch_meaning T.state tenant.0).is_live tables.new → OnOk result
         (Covers (contains ⟦<(u64, u128) as Ord>⟧.cmp due_times.old)
-        ((batch_meaning S.Store tenant.0).state conn.old).now →
+        ((batch_meaning T.state tenant.0).state tables.old).now →
         Covers (contains ⟦<(u64, u128) as Ord>⟧.cmp due_times.new)
-        ((batch_meaning S.Store tenant.0).state conn.new).now) }
+        ((batch_meaning T.state tenant.0).state tables.new).now) }
     ensures grows { IsSubset ⟦<(u64, u128) as Ord>⟧.cmp due_times.old due_times.new }
 {
     held_machines();
@@ -69,23 +68,23 @@ pub(crate) fn accept_transfer<S: Alter>(
     rows_fit();
     keys_are_distinct();
     endings_are_told();
-    let done = write_transfer(conn, due_times, tenant, accepted);
-    or_give_up(conn, done)
+    let done = write_transfer(tables, due_times, tenant, accepted);
+    or_give_up(tables, done)
 }
 
 /// Keeps the id of a transfer that failed for good.
-pub(crate) fn record_failed<S: Alter>(
-    conn: &mut Connection<S>,
+pub(crate) fn record_failed<T: LedgerTables>(
+    tables: &mut T,
     tenant: TenantNumber,
     id: u128,
 ) -> Result<(), Unavailable>
-    requires { MayCall (batch_meaning S.Store tenant.0) (λ s. FailsNow s.now id) conn.old }
-    ensures { Leaves (batch_meaning S.Store tenant.0) conn.old conn.new result
+    requires { MayCall (batch_meaning T.state tenant.0) (λ s. FailsNow s.now id) tables.old }
+    ensures { Leaves (batch_meaning T.state tenant.0) tables.old tables.new result
         (on_now (λ m. with_failed m id)) }
 {
     held_machines();
     failed_rows();
     changes_keep_same_rows();
-    let done = add_failed(conn, tenant.0, id);
-    or_give_up(conn, done)
+    let done = tables.add_failed(tenant.0, id);
+    or_give_up(tables, done)
 }

@@ -2,9 +2,8 @@
 
 ghost use Rattle.std.specs.Prelude.{◌≡◌, take, false};
 ghost use Rattle.chain.specs.AccountEntries.{account_entries_within};
-ghost use Rattle.sqlite.specs.Held.{state};
 ghost use Rattle.sqlite.specs.State.{HasCleanDisk};
-ghost use Rattle.ledger_sql.specs.Calls.{Reads};
+ghost use Rattle.ledger_sql.specs.Calls.{LeavesRead};
 ghost use Rattle.stored_tables.specs.Handing.{HandsAccount, entries_behind};
 ghost use Rattle.stored_tables.specs.Idle.{HoldsTenant, LearnsOf, machine_at};
 
@@ -14,23 +13,23 @@ use crate::entries_within::EntriesWithin;
 use amount::columns_keep_order;
 use chain::AccountEntry;
 use ledger_sql::EntrySink;
-use ledger_sql::entries::{first_entries_from, first_entries_until};
+use ledger_tables::LedgerTables;
 use records::{Order, Span, Unavailable};
 use rows::{read_in_order, rows_fit, rows_stand_in_order};
-use sqlite::{Alter, Connection, Row};
+use sqlite::Row;
 use std::alloc::Global;
 
 /// An account's entries within a span of time, in its order, at most so many, each with the
 /// account's balances after it.
-pub(crate) fn account_entries<S: Alter>(
+pub(crate) fn account_entries<T: LedgerTables>(
     alloc: Global,
-    conn: &mut Connection<S>,
+    tables: &mut T,
     tenant: TenantNumber,
     account: u128,
     span: &Span,
 ) -> Result<Vec<AccountEntry>, Unavailable>
     ensures { LearnsOf tenant.0 (λ m found. found.items ≡ account_entries_within m account span.now)
-        S.Store conn.old conn.new result }
+        (T.state tables.old) (T.state tables.new) result }
 {
     columns_keep_order();
     rows_fit();
@@ -38,13 +37,13 @@ pub(crate) fn account_entries<S: Alter>(
     let mut taken = EntriesWithin::new(alloc, *span);
     let begin = span_begin(span);
     let most = span.most;
-    first_entries(conn, tenant, account, span.order, begin, most, &mut taken)?;
+    first_entries(tables, tenant, account, span.order, begin, most, &mut taken)?;
     taken.finish()
 }
 
 /// Hands the first entries behind a bound, so many at most, to a sink until it is full.
-fn first_entries<S: Alter, K: EntrySink>(
-    conn: &mut Connection<S>,
+fn first_entries<T: LedgerTables, K: EntrySink>(
+    tables: &mut T,
     tenant: TenantNumber,
     account: u128,
     order: Order,
@@ -54,17 +53,17 @@ fn first_entries<S: Alter, K: EntrySink>(
 ) -> Result<(), Unavailable>
     requires { K.is_full sink.old ≡ false }
     ensures handed { HandsAccount K.takes K.is_full
-        (HasCleanDisk (state S.Store conn.new) × HoldsTenant tenant.0 (state S.Store conn.old)) account
-        (take count (entries_behind (machine_at tenant.0 (state S.Store conn.old)) account
+        (HasCleanDisk (T.state tables.new) × HoldsTenant tenant.0 (T.state tables.old)) account
+        (take count (entries_behind (machine_at tenant.0 (T.state tables.old)) account
         order bound)) sink.old sink.new result }
-    ensures reads { Reads S.Store conn.old conn.new result }
+    ensures reads { LeavesRead (T.state tables.old) (T.state tables.new) result }
 {
     columns_keep_order();
     rows_fit();
     rows_stand_in_order();
     read_in_order::<Row>();
     match order {
-        Order::Oldest => first_entries_from(conn, tenant.0, account, bound, count, sink),
-        Order::Newest => first_entries_until(conn, tenant.0, account, bound, count, sink),
+        Order::Oldest => tables.first_entries_from(tenant.0, account, bound, count, sink),
+        Order::Newest => tables.first_entries_until(tenant.0, account, bound, count, sink),
     }
 }

@@ -7,94 +7,95 @@ ghost use Rattle.records.specs.Step.{max_clock};
 ghost use Rattle.engine.specs.EndingLaw.{ended_id};
 ghost use Rattle.rows.specs.Changes.{with_opened, with_accepted, ended, set_state};
 ghost use Rattle.rows.specs.Changes.{new_statuses, new_history};
-ghost use Rattle.ledger_sql.specs.Calls.{Changes, IfClean};
+ghost use Rattle.ledger_sql.specs.Calls.{LeavesChanged};
+ghost use Rattle.ledger_tables.specs.Calls.{IfHonest};
 ghost use Rattle.ledger_sql.specs.Effects.{IsInside};
 ghost use Rattle.stored_tables.specs.Covers.{HasDue};
-ghost use Rattle.stored_tables.specs.Moves.{Any, CanWrite, ChangesRows, CanAccept, CanEnd, HasBoundedTimes};
+ghost use Rattle.stored_tables.specs.Moves.{Any, CanWrite, ChangesRows, CanAccept, CanEnd};
+ghost use Rattle.stored_tables.specs.Moves.{HasBoundedTimes};
 
 use crate::batch::TenantNumber;
 use crate::changing::{set_both, set_state, status};
 use crate::due_times::remember;
 use engine::due;
-use ledger_sql::adding::{add_account, add_balance, add_history, add_status, add_transfer};
+use ledger_tables::LedgerTables;
 use records::{Accepted, Account, Balances, Ending, PendingState, Transfer, Unavailable};
 use rows::{BalanceRow, HistoryRow, StatusRow};
-use sqlite::{Alter, Connection};
 use std::collections::BTreeSet;
 
 /// Writes the rows of a new account.
-pub(crate) fn write_account<S: Alter>(
-    conn: &mut Connection<S>,
+pub(crate) fn write_account<T: LedgerTables>(
+    tables: &mut T,
     tenant: TenantNumber,
     account: &Account,
 ) -> Result<(), Unavailable>
-    requires inside { IfClean IsInside S.Store conn.old }
+    requires inside { IfHonest IsInside (T.state tables.old) }
     requires bounded { account.now.timestamp ≤ max_clock }
-    ensures { Changes (ChangesRows tenant.0 Any (with_opened account.now))
-        S.Store conn.old conn.new result }
+    ensures { LeavesChanged (ChangesRows tenant.0 Any (with_opened account.now))
+        (T.state tables.old) (T.state tables.new) result }
 {
-    add_account(conn, tenant.0, account)?;
+    tables.add_account(tenant.0, account)?;
     let balance = BalanceRow {
         account: account.id,
         balances: Balances::ZERO,
     };
-    add_balance(conn, tenant.0, &balance)
+    tables.add_balance(tenant.0, &balance)
 }
 
 /// Writes the rows of a new transfer: its own, the balances of its two accounts now and as history,
 /// and the state of the pending transfer that it ends or its own. Where it is a pending one with a
 /// due time, the set has both first.
-pub(crate) fn write_transfer<S: Alter>(
-    conn: &mut Connection<S>,
+pub(crate) fn write_transfer<T: LedgerTables>(
+    tables: &mut T,
     due_times: &mut BTreeSet<(u64, u128)>,
     tenant: TenantNumber,
     accepted: &Accepted,
 ) -> Result<(), Unavailable>
-    requires inside { IfClean IsInside S.Store conn.old }
+    requires inside { IfHonest IsInside (T.state tables.old) }
     requires times { HasBoundedTimes accepted.now.stored }
-    ensures changes { Changes
+    ensures changes { LeavesChanged
         (ChangesRows tenant.0 (CanAccept accepted.now) (with_accepted accepted.now))
-        S.Store conn.old conn.new result }
+        (T.state tables.old) (T.state tables.new) result }
     ensures kept { OnOk result
         (HasDue (contains ⟦<(u64, u128) as Ord>⟧.cmp due_times.new) accepted.now.stored) }
     ensures grows { IsSubset ⟦<(u64, u128) as Ord>⟧.cmp due_times.old due_times.new }
 {
     let stored = &accepted.stored;
     remember(due_times, stored)?;
-    add_transfer(conn, tenant.0, stored)?;
+    tables.add_transfer(tenant.0, stored)?;
     set_both(
-        conn,
+        tables,
         tenant,
         stored,
         accepted.debit_after,
         accepted.credit_after,
     )?;
-    end_pending(conn, tenant, &accepted.ends)?;
+    end_pending(tables, tenant, &accepted.ends)?;
     if let Some(status) = new_status(stored) {
-        add_status(conn, tenant.0, &status)?;
+        tables.add_status(tenant.0, &status)?;
     }
     let history = new_history(accepted);
-    add_history(conn, tenant.0, &history.0, &history.1)
+    tables.add_history(tenant.0, &history.0, &history.1)
 }
 
 /// Sets the state of the pending transfer that is ended, if one is. That it has no status is told
 /// as a disk that failed.
-fn end_pending<S: Alter>(
-    conn: &mut Connection<S>,
+fn end_pending<T: LedgerTables>(
+    tables: &mut T,
     tenant: TenantNumber,
     ends: &Option<Ending>,
 ) -> Result<(), Unavailable>
-    requires { IfClean CanWrite S.Store conn.old }
-    ensures { Changes (ChangesRows tenant.0 (λ rows. CanEnd ends.now rows.statuses)
+    requires { IfHonest CanWrite (T.state tables.old) }
+    ensures { LeavesChanged (ChangesRows tenant.0 (λ rows. CanEnd ends.now rows.statuses)
         (λ rows. record rows { statuses = ended ends.now rows.statuses }))
-        S.Store conn.old conn.new result }
+        (T.state tables.old) (T.state tables.new) result }
 {
     let Some(ending) = ends else {
         return Ok(());
     };
     let end = end_of(*ending);
-    let row = status(conn, tenant, end.0)?.ok_or(Unavailable::Disk)?;
-    set_state(conn, tenant, &row, end.1)
+    let row = status(tables, tenant, end.0)?.ok_or(Unavailable::Disk)?;
+    set_state(tables, tenant, &row, end.1)
 }
 
 /// The pending transfer that is ended, and what becomes of it.

@@ -5,7 +5,8 @@ ghost use Rattle.arrayvec.specs.ArrayVec.{array_vec_len};
 ghost use Rattle.records.specs.declared.side.Side.TheVariants.{Debit, Credit};
 ghost use Rattle.engine.specs.After.{balances_released};
 ghost use Rattle.rows.specs.Widths.{IsStorableStatus};
-ghost use Rattle.ledger_sql.specs.Calls.{Changes, IfClean, Learns, OverLedger};
+ghost use Rattle.ledger_sql.specs.Calls.{OverLedger, LeavesChanged, LeavesLearnt};
+ghost use Rattle.ledger_tables.specs.Calls.{IfHonest};
 ghost use Rattle.ledger_sql.specs.Effects.{IsInside};
 ghost use Rattle.stored_tables.specs.Idle.{HasOpenStore};
 ghost use Rattle.stored_tables.specs.Kept.{kept_in};
@@ -19,33 +20,34 @@ use crate::kept::{Kept, KeptRow, keep, kept_balances};
 use crate::reading;
 use amount::{Amount, columns_keep_order};
 use engine::release;
-use ledger_sql::finding::find_transfer;
+use ledger_tables::LedgerTables;
 use records::{Balances, PendingState, Transfer, Unavailable};
 use rows::{StatusRow, found_by_key};
-use sqlite::{Alter, Connection};
 
 /// Lets the pending transfer of this status row expire, inside a transaction, and keeps back what
 /// it leaves of the balances. That it or what belongs to it is missing is told as a disk that
 /// failed.
-pub(crate) fn expire<S: Alter>(
-    conn: &mut Connection<S>,
+pub(crate) fn expire<T: LedgerTables>(
+    tables: &mut T,
     kept: &mut Kept,
     tenant: TenantNumber,
     row: &StatusRow,
 ) -> Result<(), Unavailable>
-    requires inside { IfClean IsInside S.Store conn.old }
-    requires told { IfClean (HasStatusRow tenant.0 row.now) S.Store conn.old }
+    requires inside { IfHonest IsInside (T.state tables.old) }
+    requires told { IfHonest (HasStatusRow tenant.0 row.now) (T.state tables.old) }
     requires fits { IsStorableStatus row.now }
     requires room { array_vec_len kept.old + 2 ≤ 128 }
-    ensures { Changes
+    ensures { LeavesChanged
         (Expires tenant.0 row.now.transfer (kept_in kept.old.items) (kept_in kept.new.items))
-        S.Store conn.old conn.new result }
+        (T.state tables.old) (T.state tables.new) result }
 {
     columns_keep_order();
     found_by_key::<Transfer>();
-    let transfer = find_transfer(conn, tenant.0, row.transfer)?.ok_or(Unavailable::Disk)?;
-    let debit = balances_of(conn, kept, tenant, transfer.debit_account_id)?;
-    let credit = balances_of(conn, kept, tenant, transfer.credit_account_id)?;
+    let transfer = tables
+        .find_transfer(tenant.0, row.transfer)?
+        .ok_or(Unavailable::Disk)?;
+    let debit = balances_of(tables, kept, tenant, transfer.debit_account_id)?;
+    let credit = balances_of(tables, kept, tenant, transfer.credit_account_id)?;
     let left = released(debit, credit, transfer.amount)?;
     let expiry = Expiry {
         transfer,
@@ -53,23 +55,23 @@ pub(crate) fn expire<S: Alter>(
         credit: left.1,
     };
     keep_both(kept, &expiry);
-    set_state(conn, tenant, row, PendingState::Expired)
+    set_state(tables, tenant, row, PendingState::Expired)
 }
 
 /// The balances of the account with this id: those that are kept, or else those that are stored.
-fn balances_of<S: Alter>(
-    conn: &mut Connection<S>,
+fn balances_of<T: LedgerTables>(
+    tables: &mut T,
     kept: &Kept,
     tenant: TenantNumber,
     account: u128,
 ) -> Result<Balances, Unavailable>
-    requires { IfClean HasOpenStore S.Store conn.old }
-    ensures { Learns OverLedger (AreKeptBalancesOf tenant.0 (kept_in kept.now.items) account)
-        S.Store conn.old conn.new result }
+    requires { IfHonest HasOpenStore (T.state tables.old) }
+    ensures { LeavesLearnt OverLedger (AreKeptBalancesOf tenant.0 (kept_in kept.now.items) account)
+        (T.state tables.old) (T.state tables.new) result }
 {
     match kept_balances(kept, account) {
         Some(balances) => Ok(balances),
-        None => reading::balances(conn, tenant, account),
+        None => reading::balances(tables, tenant, account),
     }
 }
 

@@ -5,7 +5,8 @@ ghost use Rattle.std.specs.BTreeSet.{contains};
 ghost use Rattle.records.specs.Due.{has_come};
 ghost use Rattle.records.specs.Step.{max_clock};
 ghost use Rattle.rows.specs.Settling.{is_due_row};
-ghost use Rattle.ledger_sql.specs.Calls.{Changes, IfClean};
+ghost use Rattle.ledger_sql.specs.Calls.{LeavesChanged};
+ghost use Rattle.ledger_tables.specs.Calls.{IfHonest};
 ghost use Rattle.stored_tables.specs.Kept.{kept_in};
 ghost use Rattle.stored_tables.specs.Moves.{CanWrite};
 ghost use Rattle.stored_tables.specs.Releasing.{ReleasesOne, MovesClock};
@@ -15,27 +16,27 @@ use crate::changing::status;
 use crate::expiring::expire;
 use crate::flushing::flush;
 use crate::kept::{Kept, MOST};
-use ledger_sql::setting::set_clock;
+use ledger_tables::LedgerTables;
 use records::{PendingState, Unavailable};
 use rows::{StatusRow, clock_rows, keys_are_distinct, rows_fit};
-use sqlite::{Alter, Connection};
 use std::collections::BTreeSet;
 
 /// Sets the clock, in nanoseconds, and releases what is due at it: of the set the transfers alone
 /// are looked at that fell due since a past moment, at which the tenant's clock was already. The
 /// balances of an account are kept back and written once, unless there are more accounts than have
 /// room.
-pub(crate) fn move_clock<S: Alter>(
-    conn: &mut Connection<S>,
+pub(crate) fn move_clock<T: LedgerTables>(
+    tables: &mut T,
     due: &BTreeSet<(u64, u128)>,
     tenant: TenantNumber,
     past: u64,
     clock: u64,
 ) -> Result<(), Unavailable>
-    requires writing { IfClean CanWrite S.Store conn.old }
+    requires writing { IfHonest CanWrite (T.state tables.old) }
     requires bounded { clock ≤ max_clock }
-    ensures { Changes (MovesClock tenant.0 past clock (contains ⟦<(u64, u128) as Ord>⟧.cmp due.now))
-        S.Store conn.old conn.new result }
+    ensures { LeavesChanged
+        (MovesClock tenant.0 past clock (contains ⟦<(u64, u128) as Ord>⟧.cmp due.now))
+        (T.state tables.old) (T.state tables.new) result }
 {
     clock_rows();
     rows_fit();
@@ -43,35 +44,35 @@ pub(crate) fn move_clock<S: Alter>(
     let from = past.min(clock);
     let mut kept = Kept::new();
     for entry in due.range((from, u128::MAX)..=(clock, u128::MAX)) {
-        release_next(conn, &mut kept, tenant, clock, entry.1)?;
+        release_next(tables, &mut kept, tenant, clock, entry.1)?;
     }
-    flush(conn, &mut kept, tenant)?;
-    set_clock(conn, tenant.0, clock)
+    flush(tables, &mut kept, tenant)?;
+    tables.set_clock(tenant.0, clock)
 }
 
 /// Releases a transfer that is open and due at the clock, once there is room for its balances. A
 /// set of due times may have others, which stay.
-fn release_next<S: Alter>(
-    conn: &mut Connection<S>,
+fn release_next<T: LedgerTables>(
+    tables: &mut T,
     kept: &mut Kept,
     tenant: TenantNumber,
     clock: u64,
     id: u128,
 ) -> Result<(), Unavailable>
-    requires { IfClean CanWrite S.Store conn.old }
-    ensures { Changes
+    requires { IfHonest CanWrite (T.state tables.old) }
+    ensures { LeavesChanged
         (ReleasesOne tenant.0 clock id (kept_in kept.old.items) (kept_in kept.new.items))
-        S.Store conn.old conn.new result }
+        (T.state tables.old) (T.state tables.new) result }
 {
     clock_rows();
     if kept.len() + 2 > MOST {
-        flush(conn, kept, tenant)?;
+        flush(tables, kept, tenant)?;
     }
-    let Some(row) = status(conn, tenant, id)? else {
+    let Some(row) = status(tables, tenant, id)? else {
         return Ok(());
     };
     if is_due(&row, clock) {
-        expire(conn, kept, tenant, &row)
+        expire(tables, kept, tenant, &row)
     } else {
         Ok(())
     }

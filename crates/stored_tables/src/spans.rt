@@ -2,27 +2,26 @@
 
 ghost use Rattle.std.specs.Prelude.{◌≡◌};
 ghost use Rattle.records.specs.Queries.{accounts_within, transfers_within};
-ghost use Rattle.ledger_sql.specs.Calls.{IfClean};
+ghost use Rattle.ledger_tables.specs.Calls.{IfHonest};
 ghost use Rattle.stored_tables.specs.Idle.{HasOpenStore, LearnsOf};
 
 use crate::batch::TenantNumber;
 use crate::bounds::{span_first, span_last};
-use ledger_sql::spans::{newest_accounts, newest_transfers, oldest_accounts, oldest_transfers};
+use ledger_tables::LedgerTables;
 use records::{Account, Order, Span, Transfer, Unavailable};
 use rows::{read_in_order, rows_fit, rows_stand_in_order};
-use sqlite::{Alter, Connection};
 use std::alloc::Global;
 
 /// The accounts in a span of time, in its order, at most so many.
-pub(crate) fn accounts<S: Alter>(
+pub(crate) fn accounts<T: LedgerTables>(
     alloc: Global,
-    conn: &mut Connection<S>,
+    tables: &mut T,
     tenant: TenantNumber,
     span: &Span,
 ) -> Result<Vec<Account>, Unavailable>
-    requires { IfClean HasOpenStore S.Store conn.old }
+    requires { IfHonest HasOpenStore (T.state tables.old) }
     ensures { LearnsOf tenant.0 (λ m found. found.items ≡ accounts_within m span.now)
-        S.Store conn.old conn.new result }
+        (T.state tables.old) (T.state tables.new) result }
 {
     rows_fit();
     rows_stand_in_order();
@@ -32,21 +31,21 @@ pub(crate) fn accounts<S: Alter>(
     };
     let last = span_last(span);
     match span.order {
-        Order::Oldest => oldest_accounts(alloc, conn, tenant.0, first, last, span.most),
-        Order::Newest => newest_accounts(alloc, conn, tenant.0, first, last, span.most),
+        Order::Oldest => tables.oldest_accounts(alloc, tenant.0, first, last, span.most),
+        Order::Newest => tables.newest_accounts(alloc, tenant.0, first, last, span.most),
     }
 }
 
 /// The transfers in a span of time, in its order, at most so many.
-pub(crate) fn transfers<S: Alter>(
+pub(crate) fn transfers<T: LedgerTables>(
     alloc: Global,
-    conn: &mut Connection<S>,
+    tables: &mut T,
     tenant: TenantNumber,
     span: &Span,
 ) -> Result<Vec<Transfer>, Unavailable>
-    requires { IfClean HasOpenStore S.Store conn.old }
+    requires { IfHonest HasOpenStore (T.state tables.old) }
     ensures { LearnsOf tenant.0 (λ m found. found.items ≡ transfers_within m span.now)
-        S.Store conn.old conn.new result }
+        (T.state tables.old) (T.state tables.new) result }
 {
     rows_fit();
     rows_stand_in_order();
@@ -56,7 +55,7 @@ pub(crate) fn transfers<S: Alter>(
     };
     let last = span_last(span);
     match span.order {
-        Order::Oldest => oldest_transfers(alloc, conn, tenant.0, first, last, span.most),
-        Order::Newest => newest_transfers(alloc, conn, tenant.0, first, last, span.most),
+        Order::Oldest => tables.oldest_transfers(alloc, tenant.0, first, last, span.most),
+        Order::Newest => tables.newest_transfers(alloc, tenant.0, first, last, span.most),
     }
 }

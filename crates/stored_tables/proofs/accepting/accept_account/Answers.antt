@@ -12,7 +12,7 @@ write_account-done-requires g c = record { inside = λ clean. is_inside _ _ (c.r
 pub returns : goal.returns
 returns g c =
     let a = c.args.account.now in
-    leaves_or_over g.S.Store _ c.args.conn.now c.write_account-done.new.conn _ _ _ _ _ c.write_account-done.ensures.follows c.write_account-done.ensures.ok c.or_give_up.ensures
+    leaves_or_over g.T.LedgerTables.state _ c.args.tables.now c.write_account-done.new.tables _ _ _ _ _ c.write_account-done.ensures.follows c.write_account-done.ensures.ok c.or_give_up.ensures
     (λ x written.
-    writes_leave g.S.Store c.args.tenant.0 c.args.conn.now c.write_account-done.new.conn x Any (with_opened a) (λ m. with_account m a) c.held_machines.ensures c.requires.may.usable c.write_account-done.ensures.follows written
+    writes_leave g.T.LedgerTables.state c.args.tenant.0 c.args.tables.now c.write_account-done.new.tables x Any (with_opened a) (λ m. with_account m a) c.held_machines.ensures c.requires.may.usable c.write_account-done.ensures.follows written
     (λ live valid. let next = c.requires.may.so live in record { may = tt; rows = c.account_rows.ensures _ a valid next; valid = next_account _ a valid next }))

@@ -1,6 +1,5 @@
 use Rattle.std.proofs.Common.{◌≡◌, Ok, Err, Result, OnOk}
 use Rattle.records.specs.declared.unavailable.Unavailable.{Unavailable}
-use Rattle.sqlite.specs.Held.{state}
 use Rattle.records.specs.Machine.{Machine}
 use Rattle.records.specs.Valid.{IsValid, with_transfer}
 use Rattle.records.specs.Valid.IsValid.{next_transfer}
@@ -32,9 +31,9 @@ write_transfer-done-requires g c = record { inside = λ clean. is_inside _ _ (c.
 pub returns-clause-leaves : goal.returns-clause-leaves
 returns-clause-leaves g c =
     let a = c.args.accepted.now in
-    leaves_or_over g.S.Store _ c.args.conn.now c.write_transfer-done.new.conn _ _ _ _ _ c.write_transfer-done.ensures.changes.follows c.write_transfer-done.ensures.changes.ok c.or_give_up.ensures
+    leaves_or_over g.T.LedgerTables.state _ c.args.tables.now c.write_transfer-done.new.tables _ _ _ _ _ c.write_transfer-done.ensures.changes.follows c.write_transfer-done.ensures.changes.ok c.or_give_up.ensures
     (λ x written.
-    writes_leave g.S.Store c.args.tenant.0 c.args.conn.now c.write_transfer-done.new.conn x (CanAccept a) (with_accepted a) (λ m. with_transfer m a.stored) c.held_machines.ensures c.requires.may.usable c.write_transfer-done.ensures.changes.follows written
+    writes_leave g.T.LedgerTables.state c.args.tenant.0 c.args.tables.now c.write_transfer-done.new.tables x (CanAccept a) (with_accepted a) (λ m. with_transfer m a.stored) c.held_machines.ensures c.requires.may.usable c.write_transfer-done.ensures.changes.follows written
     (λ live valid. changes g c _ valid (c.requires.may.so live)))
 
 -- what is so where neither of the same results failed
@@ -47,10 +46,10 @@ pub returns-clause-covers : goal.returns-clause-covers
 returns-clause-covers g c live =
     let t = c.args.tenant.0 in
     let a = c.args.accepted.now in
-    let s0 = state g.S.Store c.args.conn.now in
-    let s2 = state g.S.Store c.or_give_up.new.conn in
+    let s0 = g.T.LedgerTables.state c.args.tables.now in
+    let s2 = g.T.LedgerTables.state c.or_give_up.new.tables in
     let leaves = returns-clause-leaves g c in
     let live0 = live_before s0 s2 leaves.follows.calls live in
-    let held = held_before g.S.Store t c.args.conn.now c.or_give_up.new.conn c.requires.may.usable leaves.follows.calls live in
+    let held = held_before g.T.LedgerTables.state t c.args.tables.now c.or_give_up.new.tables c.requires.may.usable leaves.follows.calls live in
     both c.or_give_up.result c.write_transfer-done.result c.or_give_up.ensures.same (leaves.state live) c.write_transfer-done.ensures.kept
     (λ moved due. state_covered _ _ c.write_transfer-done.ensures.grows (shown t s0) (shown t s2) a moved (changes g c (shown t s0).now held.valid (c.requires.may.so live0)).rows due)

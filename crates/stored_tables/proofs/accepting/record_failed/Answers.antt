@@ -1,5 +1,4 @@
 use Rattle.std.proofs.Common.{◌≡◌, false, rules}
-use Rattle.sqlite.specs.Held.{state}
 use Rattle.records.specs.Machine.{has_id, with_failed}
 use Rattle.records.specs.Valid.IsValid.{next_failed}
 use Rattle.rows.specs.Changes.{with_failed_id}
@@ -19,11 +18,11 @@ unfolding rows_for
 returns g c =
     let t = c.args.tenant.0 in
     let id = c.args.id in
-    let s0 = state g.S.Store c.args.conn.now in
-    let s1 = state g.S.Store c.add_failed-done.new.conn in
-    leaves_or_over g.S.Store _ c.args.conn.now c.add_failed-done.new.conn _ _ _ _ _ c.add_failed-done.ensures.follows c.add_failed-done.ensures.ok c.or_give_up.ensures
+    let s0 = g.T.LedgerTables.state c.args.tables.now in
+    let s1 = g.T.LedgerTables.state c.add_failed-done.new.self in
+    leaves_or_over g.T.LedgerTables.state _ c.args.tables.now c.add_failed-done.new.self _ _ _ _ _ c.add_failed-done.ensures.follows c.add_failed-done.ensures.ok c.or_give_up.ensures
     (λ x added.
-    writes_leave g.S.Store t c.args.conn.now c.add_failed-done.new.conn x (λ rows. has_id id rows.failed ≡ false) (with_failed_id id) (λ m. with_failed m id) c.held_machines.ensures c.requires.usable c.add_failed-done.ensures.follows
+    writes_leave g.T.LedgerTables.state t c.args.tables.now c.add_failed-done.new.self x (λ rows. has_id id rows.failed ≡ false) (with_failed_id id) (λ m. with_failed m id) c.held_machines.ensures c.requires.usable c.add_failed-done.ensures.follows
     (λ clean.
     let clean0 = clean_before _ _ c.add_failed-done.ensures.follows clean in
     failed_written c.changes_keep_same_rows.ensures.failed t id s0 s1 (is_inside t s0 (c.requires.usable clean0)) (rw (passed t (search rules)) at (added clean)))

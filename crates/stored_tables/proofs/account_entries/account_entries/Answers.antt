@@ -2,7 +2,6 @@ use Rattle.std.proofs.Common.{rules, ◌≡◌, sym, subst, Ok, Err, Result, IfO
 use Rattle.records.specs.declared.unavailable.Unavailable.{Unavailable}
 use Rattle.records.specs.Machine.{Machine}
 use Rattle.chain.specs.AccountEntries.{account_entries_within}
-use Rattle.sqlite.specs.Held.{state}
 use Rattle.sqlite.specs.State.{HasCleanDisk}
 use Rattle.stored_tables.specs.Idle.{machine_at, HoldsTenant}
 use Rattle.stored_tables.proofs.Numbers.{passed}
@@ -17,7 +16,7 @@ each (Err e) p f = tt
 pub returns : goal.returns
 returns g c = record {
   ok = λ clean tenant.
-      let old = state g.S.Store c.args.conn.now in
+      let old = g.T.LedgerTables.state c.args.tables.now in
       let span = c.args.span.now in
       let account = c.args.account in
       let t = c.args.tenant.0 in
@@ -27,7 +26,7 @@ returns g c = record {
       let up = c.rows_stand_in_order.ensures.transfers m held.valid in
       let one = c.columns_keep_order.ensures.one_to_one in
       let handed = rw (passed c.span_begin-begin.result (search rules)) at c.in_ok-first_entries.ensures.handed in
-      let H : Type 0 = HasCleanDisk (state g.S.Store c.first_entries.new.conn) × HoldsTenant t old in
+      let H : Type 0 = HasCleanDisk (g.T.LedgerTables.state c.first_entries.new.tables) × HoldsTenant t old in
       each c.finish.result c.finish.ensures
       (λ entries h.
       subst (λ v. v.items ≡ account_entries_within m account span) (sym h.0)

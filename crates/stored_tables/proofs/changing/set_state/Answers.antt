@@ -1,6 +1,5 @@
 use Rattle.std.proofs.Common.{rules, refl, Some}
 use Rattle.std.proofs.lemmas.Result.{on_ok_weaker}
-use Rattle.sqlite.specs.Held.{state}
 use Rattle.ledger_sql.specs.Effects.{IsInside}
 use Rattle.stored_tables.specs.Releasing.{HasStatusRow}
 use Rattle.stored_tables.proofs.ChangedRows.{row_due_fits}
@@ -14,7 +13,7 @@ set_status-requires-clause-due g c = row_due_fits (Some c.args.row.now) c.args.r
 
 pub returns : goal.returns
 returns g c =
-    changes g.S.Store c.args.conn.now c.set_status.new.conn c.set_status.result (IsInside (state g.S.Store c.args.conn.now) × HasStatusRow c.args.tenant.0 c.args.row.now (state g.S.Store c.args.conn.now)) _ (λ clean. (c.requires.inside clean, c.requires.told clean)) c.set_status.ensures.follows
+    changes g.T.LedgerTables.state c.args.tables.now c.set_status.new.self c.set_status.result (IsInside (g.T.LedgerTables.state c.args.tables.now) × HasStatusRow c.args.tenant.0 c.args.row.now (g.T.LedgerTables.state c.args.tables.now)) _ (λ clean. (c.requires.inside clean, c.requires.told clean)) c.set_status.ensures.follows
     (λ can clean.
     on_ok_weaker c.set_status.result (state_set c.args.tenant.0 _ _ can.0.schema c.columns_keep_order.ensures.one_to_one c.found_by_key.ensures.alone c.found_by_key.ensures.replaced c.args.row.now.transfer c.args.to c.args.row.now can.1)
     (rw (passed c.args.tenant.0 (search rules)) at (c.set_status.ensures.ok clean)))

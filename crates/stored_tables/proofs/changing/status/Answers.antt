@@ -1,5 +1,4 @@
 use Rattle.std.proofs.Common.{rules, IfSome}
-use Rattle.sqlite.specs.Held.{state}
 use Rattle.rows.specs.Widths.{IsStorableStatus}
 use Rattle.stored_tables.specs.Moves.{IsStatusOf}
 use Rattle.stored_tables.proofs.ChangedRows.{both_ok}
@@ -11,8 +10,8 @@ pub returns : goal.returns
 returns g c = record {
   ok = λ clean ledger.
       let t = c.args.tenant.0 in
-      let s0 = state g.S.Store c.args.conn.now in
-      let s1 = state g.S.Store c.find_status.new.conn in
+      let s0 = g.T.LedgerTables.state c.args.tables.now in
+      let s1 = g.T.LedgerTables.state c.find_status.new.self in
       both_ok c.find_status.result (λ found. IfSome found IsStorableStatus) _ (IsStatusOf t c.args.id s0.now.trees)
       (λ found fits picks. status_found t s0 s1 ledger c.columns_keep_order.ensures.one_to_one c.found_by_key.ensures.alone c.cells_tell_rows.ensures c.args.id found c.ranges.id.fits fits picks)
       c.find_status.ensures.fits

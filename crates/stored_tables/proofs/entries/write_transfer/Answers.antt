@@ -1,7 +1,6 @@
-use Rattle.std.proofs.Common.{sym, ap, ◌∙◌, rules}
+use Rattle.std.proofs.Common.{sym, ap, subst, ◌∙◌, rules}
 use Rattle.std.specs.Option.{option_to_list}
 use Rattle.sqlite.specs.State.{State, HasCleanDisk}
-use Rattle.sqlite.specs.Held.{state}
 use Rattle.rows.specs.Changes.{new_statuses}
 use Rattle.ledger_sql.specs.Effects.{IsInside}
 use Rattle.ledger_sql.specs.Frames.{Follows}
@@ -15,19 +14,19 @@ use Rattle.stored_tables.proofs.entries.write_transfer.Goals as goal
 
 module _ (g : _) (c : After-new_history-history g) where
   abbrev s0 : State
-  s0 = state g.S.Store c.args.conn.now
+  s0 = g.T.LedgerTables.state c.args.tables.now
 
   abbrev s1 : State
-  s1 = state g.S.Store c.add_transfer.new.conn
+  s1 = g.T.LedgerTables.state c.add_transfer.new.self
 
   abbrev s2 : State
-  s2 = state g.S.Store c.set_both.new.conn
+  s2 = g.T.LedgerTables.state c.set_both.new.tables
 
   abbrev s3 : State
-  s3 = state g.S.Store c.end_pending.new.conn
+  s3 = g.T.LedgerTables.state c.end_pending.new.tables
 
   abbrev s4 : State
-  s4 = state g.S.Store c.match-new_status.conn
+  s4 = g.T.LedgerTables.state c.match-new_status.tables
 
   -- the transaction goes on
   can_write : HasCleanDisk s3 → CanWrite s3
@@ -40,19 +39,25 @@ module _ (g : _) (c : After-new_history-history g) where
       let third = (c.in_ok-end_pending.ensures.ok clean3).inside in
       record { inside = still_inside s2 s3 second third; is_open = third.shown.is_open }
 
-  -- the status of the transfer is written, if it has one
-  opened : (HasCleanDisk s4 → Status c.args.tenant.0 (new_statuses c.args.accepted.now.stored) s3 s4) × Follows s3 s4
+  -- the status of the transfer is written in this state, if it has one
+  abbrev Opens : State → Type 0
+  Opens s = (HasCleanDisk s → Status c.args.tenant.0 (new_statuses c.args.accepted.now.stored) s3 s) × Follows s3 s
+
+  opened : Opens s4
   opened =
       let t = c.args.tenant.0 in
       let stored = c.args.accepted.now.stored in
       elim c.match-new_status.branch [
-        | in-Some+in_ok-add_status w ↦ rw w.conn-is (
+        | in-Some+in_ok-add_status w ↦ subst (λ tables. Opens (g.T.LedgerTables.state tables)) (sym w.tables-is) (
           λ clean.
               status_written t stored w.in-Some.status s3 _ (can_write (clean_before s3 _ w.add_status.ensures.follows clean)).inside (sym (ap option_to_list w.in-Some.is) ∙ c.new_status.ensures.row)
               (rw (passed t (search rules)) at (w.in_ok-add_status.ensures.ok clean)),
           w.add_status.ensures.follows,
         )
-        | in_default w ↦ rw w.conn-is (λ clean. none_written t stored s3 (can_write clean) (sym (ap option_to_list w.in_default.is) ∙ c.new_status.ensures.row), follows_itself s3)
+        | in_default w ↦ subst (λ tables. Opens (g.T.LedgerTables.state tables)) (sym w.tables-is) (
+          λ clean. none_written t stored s3 (can_write clean) (sym (ap option_to_list w.in_default.is) ∙ c.new_status.ensures.row),
+          follows_itself s3,
+        )
       ]
 
   inside : HasCleanDisk s4 → IsInside s4
@@ -72,7 +77,7 @@ returns-clause-changes g c =
     let at = (goal.at.returns-clause-changes g c).After-new_history-history in
     let t = c.args.tenant.0 in
     let a = c.args.accepted.now in
-    let s5 = state g.S.Store c.add_history.new.conn in
+    let s5 = g.T.LedgerTables.state c.add_history.new.self in
     let opens = opened g at in
     record {
       ok = λ clean5.

@@ -1,7 +1,6 @@
 use Rattle.std.proofs.Common.{Ok, refl, sym, ◌∙◌, rules}
 use Rattle.sqlite.proofs.Callers.{unchanged_then}
 use Rattle.sqlite.specs.State.{HasCleanDisk, IsUnchanged}
-use Rattle.sqlite.specs.Held.{state}
 use Rattle.records.specs.declared.unavailable.Unavailable.TheVariants.{Disk}
 use Rattle.rows.specs.Cells.{transfer_cells}
 use Rattle.rows.specs.Widths.{IsStorableTransfer}
@@ -31,10 +30,10 @@ returns-in_err-credit g c = record { ok = search rules; follows = follows_then _
 
 -- what was read is so still
 module _ (g : _) (c : In_ok-credit g) where
-  follows : Follows (state g.S.Store c.args.conn.now) (state g.S.Store c.balances_of-2.new.conn)
+  follows : Follows (g.T.LedgerTables.state c.args.tables.now) (g.T.LedgerTables.state c.balances_of-2.new.tables)
   follows = follows_then _ _ _ (follows_then _ _ _ c.find_transfer.ensures.reads.follows c.balances_of.ensures.reads.follows) c.balances_of-2.ensures.reads.follows
 
-  same : HasCleanDisk (state g.S.Store c.balances_of-2.new.conn) → IsUnchanged (state g.S.Store c.args.conn.now) (state g.S.Store c.balances_of-2.new.conn)
+  same : HasCleanDisk (g.T.LedgerTables.state c.balances_of-2.new.tables) → IsUnchanged (g.T.LedgerTables.state c.args.tables.now) (g.T.LedgerTables.state c.balances_of-2.new.tables)
   same clean3 =
       let clean2 = clean_before _ _ c.balances_of-2.ensures.reads.follows clean3 in
       let clean1 = clean_before _ _ c.balances_of.ensures.reads.follows clean2 in
@@ -59,11 +58,11 @@ returns g c =
     let id = c.args.row.now.transfer in
     let transfer = c.in_ok-transfer.transfer in
     let kept = kept_in c.args.kept.now.items in
-    let s0 = state g.S.Store c.args.conn.now in
-    let s1 = state g.S.Store c.find_transfer.new.conn in
-    let s2 = state g.S.Store c.balances_of.new.conn in
-    let s3 = state g.S.Store c.balances_of-2.new.conn in
-    let s4 = state g.S.Store c.set_state.new.conn in
+    let s0 = g.T.LedgerTables.state c.args.tables.now in
+    let s1 = g.T.LedgerTables.state c.find_transfer.new.self in
+    let s2 = g.T.LedgerTables.state c.balances_of.new.tables in
+    let s3 = g.T.LedgerTables.state c.balances_of-2.new.tables in
+    let s4 = g.T.LedgerTables.state c.set_state.new.tables in
     let read = (goal.at.returns g c).In_ok-credit in
     record {
       ok = λ clean4.

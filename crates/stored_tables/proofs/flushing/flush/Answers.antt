@@ -1,6 +1,5 @@
 use Rattle.std.proofs.Common.{ap, ◌++◌, ◌∙◌}
 use Rattle.std.specs.Option.{option_to_list}
-use Rattle.sqlite.specs.Held.{state}
 use Rattle.stored_tables.specs.BatchLaws.{clean_before, follows_itself, follows_then}
 use Rattle.stored_tables.specs.Kept.{kept_in}
 use Rattle.stored_tables.proofs.KeptMoves.{same_kept, kept_then, one_flushed}
@@ -9,20 +8,20 @@ use Rattle.stored_tables.proofs.flushing.flush.Goals as goal
 
 pub loop-row-init : goal.loop-row-init
 loop-row-init g c =
-    let s0 = state g.S.Store c.args.conn.now in
+    let s0 = g.T.LedgerTables.state c.args.tables.now in
     (λ clean. same_kept c.args.tenant.0 (kept_in c.args.kept.now.items) s0 (c.requires clean), follows_itself s0)
 
 pub set_balances-requires : goal.set_balances-requires
 set_balances-requires g c clean =
-    let s0 = state g.S.Store c.args.conn.now in
+    let s0 = g.T.LedgerTables.state c.args.tables.now in
     let before = clean_before _ _ c.loop-row.invariant.1 clean in
-    still_inside s0 (state g.S.Store c.loop-row.conn) (c.requires before).inside (c.loop-row.invariant.0 clean).inside
+    still_inside s0 (g.T.LedgerTables.state c.loop-row.tables) (c.requires before).inside (c.loop-row.invariant.0 clean).inside
 
 pub loop-row-preserved : goal.loop-row-preserved
 loop-row-preserved g c =
-    let s0 = state g.S.Store c.args.conn.now in
-    let s1 = state g.S.Store c.loop-row.conn in
-    let s2 = state g.S.Store c.set_balances.new.conn in
+    let s0 = g.T.LedgerTables.state c.args.tables.now in
+    let s1 = g.T.LedgerTables.state c.loop-row.tables in
+    let s2 = g.T.LedgerTables.state c.set_balances.new.tables in
     let more = c.loop-row.kept.items in
     let rest = c.pop.new.self.items in
     let row = c.in-Some.row in (

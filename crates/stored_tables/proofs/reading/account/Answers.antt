@@ -3,7 +3,6 @@ use Rattle.std.specs.Option.{option_map}
 use Rattle.records.specs.Balances.{balances_in}
 use Rattle.records.specs.Facts.{with_balances}
 use Rattle.sqlite.specs.Effect.{Database}
-use Rattle.sqlite.specs.Held.{state}
 use Rattle.stored_tables.specs.BatchLaws.{clean_before}
 use Rattle.stored_tables.specs.Idle.{machine_at}
 use Rattle.stored_tables.specs.MachineOf.{machine_of}
@@ -20,7 +19,7 @@ returns-in_default g c = record {
       let t = c.args.tenant.0 in
       let told = rw (passed t (search rules)) at (c.in_ok-account.ensures.ok clean tenant.schema) in
       let found = c.point_reads.ensures.account t _ _ c.args.id _ tenant.holds c.ranges.id.fits c.in_ok-account.ensures.fits told in
-      ap (option_map (with_balances (machine_at t (state g.S.Store c.args.conn.now)))) (sym c.in_default.is ∙ found);
+      ap (option_map (with_balances (machine_at t (g.T.LedgerTables.state c.args.tables.now)))) (sym c.in_default.is ∙ found);
   reads = search rules;
 }
 
@@ -28,8 +27,8 @@ pub returns : goal.returns
 returns g c = record {
   ok = λ clean tenant.
       let t = c.args.tenant.0 in
-      let m = machine_at t (state g.S.Store c.args.conn.now) in
-      let s1 = state g.S.Store c.find_account.new.conn in
+      let m = machine_at t (g.T.LedgerTables.state c.args.tables.now) in
+      let s1 = g.T.LedgerTables.state c.find_account.new.self in
       let before = clean_before s1 _ c.balances.ensures.reads.follows clean in
       let same = c.in_ok-account.ensures.reads.same before in
       let told = rw (passed t (search rules)) at (c.in_ok-account.ensures.ok before tenant.schema) in

@@ -1,7 +1,6 @@
 use Rattle.std.proofs.Common.{map}
 use Rattle.std.specs.Map.Iter.{deref}
 use Rattle.sqlite.specs.State.{HasCleanDisk}
-use Rattle.sqlite.specs.Held.{state}
 use Rattle.ledger_sql.specs.Frames.{Follows}
 use Rattle.stored_tables.specs.Kept.{kept_in}
 use Rattle.stored_tables.proofs.ReleasedAll.{ReleasesSeen}
@@ -12,5 +11,5 @@ abbrev pub invariant-loop-entry : goal.invariant-loop-entry
 invariant-loop-entry g l =
     (goal.iterator-loop-entry g).can_next l.entry-iterator
     × (goal.iterator-loop-entry g).is_finite l.entry-iterator
-    × (HasCleanDisk (state g.S.Store l.conn) → ReleasesSeen l.tenant.0 l.clock (kept_in l.kept.items) (map deref l.yielded) (state g.S.Store l.fn.conn) (state g.S.Store l.conn))
-    × Follows (state g.S.Store l.fn.conn) (state g.S.Store l.conn)
+    × (HasCleanDisk (g.T.LedgerTables.state l.tables) → ReleasesSeen l.tenant.0 l.clock (kept_in l.kept.items) (map deref l.yielded) (g.T.LedgerTables.state l.fn.tables) (g.T.LedgerTables.state l.tables))
+    × Follows (g.T.LedgerTables.state l.fn.tables) (g.T.LedgerTables.state l.tables)

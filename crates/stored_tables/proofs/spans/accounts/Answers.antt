@@ -14,12 +14,12 @@ returns-in_default g c = record {
 
 pub returns-in-Oldest : goal.returns-in-Oldest
 returns-in-Oldest g c =
-    found g.S.Store c.args.tenant.0 c.args.conn.now c.oldest_accounts.new.conn _ _ _ _
+    found g.T.LedgerTables.state c.args.tenant.0 c.args.tables.now c.oldest_accounts.new.self _ _ _ _
     (λ m trees read held fits. (accounts_read c.args.tenant.0 m trees held (c.rows_fit.ensures 3 m held.valid) c.args.span.now c.read_in_order.ensures.ascending (c.rows_stand_in_order.ensures.accounts m held.valid)).oldest c.in-Oldest.is read.items fits)
     (rw (passed c.args.tenant.0 (search rules), passed c.in-Some.first (search rules), passed c.span_last-last.result (search rules), c.in-Some.ensures, c.span_last-last.ensures) at c.oldest_accounts.ensures)
 
 pub returns-in-Newest : goal.returns-in-Newest
 returns-in-Newest g c =
-    found g.S.Store c.args.tenant.0 c.args.conn.now c.newest_accounts.new.conn _ _ _ _
+    found g.T.LedgerTables.state c.args.tenant.0 c.args.tables.now c.newest_accounts.new.self _ _ _ _
     (λ m trees read held fits. (accounts_read c.args.tenant.0 m trees held (c.rows_fit.ensures 3 m held.valid) c.args.span.now c.read_in_order.ensures.ascending (c.rows_stand_in_order.ensures.accounts m held.valid)).newest c.in-Newest.is read.items fits)
     (rw (passed c.args.tenant.0 (search rules), passed c.in-Some.first (search rules), passed c.span_last-last.result (search rules), c.in-Some.ensures, c.span_last-last.ensures) at c.newest_accounts.ensures)

@@ -2,4 +2,4 @@ use Rattle.stored_tables.proofs.TablesLeave.{tables_looked_up}
 use Rattle.stored_tables.proofs.batch.BatchTables.account.Goals as goal
 
 pub returns : goal.returns
-returns g c = tables_looked_up g.S.Store _ c.args.self.now c.or_give_up.new.conn c.or_give_up.result c.account-found.new.conn _ _ c.requires c.account-found.ensures c.or_give_up.ensures
+returns g c = tables_looked_up g.T.LedgerTables.state _ c.args.self.now c.or_give_up.new.tables c.or_give_up.result c.account-found.new.tables _ _ c.requires c.account-found.ensures c.or_give_up.ensures

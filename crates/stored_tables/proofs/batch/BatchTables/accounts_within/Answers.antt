@@ -5,4 +5,4 @@ pub accounts-found-requires : goal.accounts-found-requires
 accounts-found-requires g c clean = (c.requires.0 clean).is_open
 
 pub returns : goal.returns
-returns g c = tables_looked_up g.S.Store _ c.args.self.now c.or_give_up.new.conn c.or_give_up.result c.accounts-found.new.conn _ _ c.requires c.accounts-found.ensures c.or_give_up.ensures
+returns g c = tables_looked_up g.T.LedgerTables.state _ c.args.self.now c.or_give_up.new.tables c.or_give_up.result c.accounts-found.new.tables _ _ c.requires c.accounts-found.ensures c.or_give_up.ensures
