@@ -42,6 +42,8 @@ type Error struct {
 	Kind error
 	// Status is the HTTP status of a Refusal.
 	Status int
+	// Detail says where the body is refused, or is nil if it is not.
+	Detail *Detail
 	// MayBeBooked is true if an attempt to send the call's batch got no answer, so that the batch may
 	// stand in the ledger all the same. Then send the same events with the same ids again:
 	// only an answer is conclusive. A look-up that finds nothing is not, since the batch may still be on
@@ -56,6 +58,9 @@ func (e *Error) Error() string {
 	if e.Status != 0 {
 		text = fmt.Sprintf("%s (%d)", text, e.Status)
 	}
+	if e.Detail != nil {
+		text += ": " + e.Detail.String()
+	}
 	if e.Cause != nil {
 		text += ": " + e.Cause.Error()
 	}
@@ -66,6 +71,27 @@ func (e *Error) Unwrap() error { return e.Cause }
 
 // Is reports whether the error is of this kind.
 func (e *Error) Is(target error) bool { return e.Kind == target }
+
+// Detail says where the body of a request is refused.
+type Detail struct {
+	// Place is the place of the event or id in the call's list, from 0, or -1 if it is none of them.
+	Place int
+	// Field is the name of the field, or "".
+	Field string
+	// Want says what is wanted there.
+	Want string
+}
+
+func (d *Detail) String() string {
+	text := "want " + d.Want
+	if d.Field != "" {
+		text = d.Field + ": " + text
+	}
+	if d.Place >= 0 {
+		text = fmt.Sprintf("event %d: %s", d.Place, text)
+	}
+	return text
+}
 
 // MayBeBooked reports whether an error leaves open that the call's batch stands in the ledger.
 func MayBeBooked(err error) bool {

@@ -300,8 +300,10 @@ func (l *Ledger) ask(ctx context.Context, m message) (body []byte, isRepeated bo
 		return got.body, got.isRepeated, nil
 	}
 	failed := &Error{Kind: ErrBadReply, Status: got.status, MayBeBooked: m.isBatch}
-	if name := (answer{status: got.status, body: got.body}).refusal(); name != "" {
+	told := answer{status: got.status, body: got.body}
+	if name := told.refusal(); name != "" {
 		failed.Kind, failed.MayBeBooked = name, m.isBatch && got.isRepeated
+		failed.Detail = told.detail()
 	}
 	return nil, false, failed
 }

@@ -65,6 +65,18 @@ func (a answer) refusal() Refusal {
 	return told.Error
 }
 
+// detail is where the body of the request is refused, or nil if the answer does not say.
+func (a answer) detail() *Detail {
+	var told struct {
+		Event       int
+		Field, Want string
+	}
+	if json.Unmarshal(a.body, &told) != nil || told.Want == "" {
+		return nil
+	}
+	return &Detail{Place: told.Event - 1, Field: told.Field, Want: told.Want}
+}
+
 // failure is the failure that an answer reports, or nil if the answer is final.
 func (a answer) failure() *failure {
 	name := a.refusal()
@@ -250,6 +262,7 @@ func (t *transport) exchange(ctx context.Context, m message) (answer, error) {
 		return answer{}, err
 	}
 	request.Header.Set("x-ledger-key", t.key)
+	request.Header.Set("x-ledger-detail", "1")
 	response, err := t.client.Do(request)
 	if err != nil {
 		return answer{}, err

@@ -160,6 +160,8 @@ class Stage:
                 if line.lower().startswith("x-ledger-key:")]
         if keys != [self.key] and not lines[0].startswith("GET /health"):
             self.misfits.append(f"not one header with the key: {keys}")
+        if not any(line.lower() == "x-ledger-detail: 1" for line in lines):
+            self.misfits.append("no header that asks for detail")
         if "sent" in exchange:
             sent = exchange["sent"]
             if lines[0] != f"{sent['method']} {sent['path']} HTTP/1.1":

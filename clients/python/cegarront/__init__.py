@@ -11,7 +11,7 @@ numbers in a currency's smallest unit, timestamps are nanoseconds since 1970, id
 """
 
 from .aio import AsyncLedger
-from .errors import BadReply, EventsRefused, LedgerError, Refused, Unanswered
+from .errors import BadReply, Detail, EventsRefused, LedgerError, Refused, Unanswered
 from .ids import new_id
 from .ledger import Ledger
 from .records import (
@@ -50,6 +50,7 @@ __all__ = [
     "Balance",
     "Entry",
     "EntryKind",
+    "Detail",
     "EventsRefused",
     "FilterFlag",
     "Hold",

@@ -233,6 +233,7 @@ class AsyncTransport:
             f"{message.method} {self._address.path}{message.path} HTTP/1.1",
             f"host: {host}:{self._address.port}" if self._address.port else f"host: {host}",
             f"x-ledger-key: {self._key}",
+            "x-ledger-detail: 1",
         ]
         if message.body is not None:
             lines.append(f"content-length: {len(body)}")

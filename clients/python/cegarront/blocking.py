@@ -110,6 +110,7 @@ class Transport:
         if message.body is not None:
             connection.putheader("content-length", str(len(message.body)))
         connection.putheader("x-ledger-key", self._key)
+        connection.putheader("x-ledger-detail", "1")
         connection.endheaders(message.body)
         with connection.getresponse() as response:
             # A head that was cut looks like one without a length. A body that was cut, or lacks its

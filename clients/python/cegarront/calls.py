@@ -39,7 +39,7 @@ from .records import (
     check_number,
 )
 from .results import AccountResult, Outcome, Results, TransferResult
-from .transport import Answer, Message, Reply, refusal_in
+from .transport import Answer, Message, Reply, detail_in, refusal_in
 
 R = TypeVar("R")
 Asked = TypeVar("Asked", bound=PageFilter)
@@ -229,7 +229,8 @@ def _read(message: Message, reply: Reply, read: Callable[[bytes], R]) -> R:
     if reply.status != 200:
         name = refusal_in(reply.status, reply.body)
         if name is not None:
-            raise Refused(reply.status, name, message.is_batch and reply.is_repeated)
+            is_open = message.is_batch and reply.is_repeated
+            raise Refused(reply.status, name, is_open, detail_in(reply.body))
         raise BadReply(f"status {reply.status} without a refusal's name", message.is_batch)
     try:
         return read(reply.body)

@@ -2,7 +2,7 @@
 
 from __future__ import annotations
 
-from typing import TYPE_CHECKING, Tuple
+from typing import TYPE_CHECKING, NamedTuple, Optional, Tuple
 
 from .chains import LINKED_EVENT_FAILED
 
@@ -26,16 +26,36 @@ class LedgerError(Exception):
         self.may_be_booked = may_be_booked
 
 
+class Detail(NamedTuple):
+    """Where the body of a request is refused. `want` says what is wanted there.
+
+    `place` is that of the event or id in the call's list, counted from 0.
+    """
+
+    place: Optional[int] = None
+    field: Optional[str] = None
+    want: Optional[str] = None
+
+    def __str__(self) -> str:
+        event = "" if self.place is None else f"event {self.place}: "
+        field = "" if self.field is None else f"{self.field}: "
+        return "" if self.want is None else f": {event}{field}want {self.want}"
+
+
 class Refused(LedgerError):
     """The service has refused the request, by a name of docs/MESSAGES.md such as `no_account`.
 
-    `name` is that name and `status` the HTTP status beside it.
+    `name` is that name and `status` the HTTP status beside it. `detail` says where the body is
+    refused, if it is.
     """
 
-    def __init__(self, status: int, name: str, may_be_booked: bool = False) -> None:
-        super().__init__(f"{name} ({status})", may_be_booked)
+    def __init__(
+        self, status: int, name: str, may_be_booked: bool = False, detail: Detail = Detail()
+    ) -> None:
+        super().__init__(f"{name} ({status}){detail}", may_be_booked)
         self.status = status
         self.name = name
+        self.detail = detail
 
 
 class Unanswered(LedgerError):

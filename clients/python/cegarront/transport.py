@@ -14,7 +14,7 @@ from dataclasses import dataclass
 from typing import NamedTuple, Optional
 from urllib.parse import urlsplit
 
-from .errors import Unanswered
+from .errors import Detail, Unanswered
 from .wire import object_in
 
 FIRST_PAUSE = 0.05
@@ -122,6 +122,17 @@ def refusal_in(status: int, body: bytes) -> Optional[str]:
     except (ValueError, KeyError):
         return None
     return name if isinstance(name, str) else None
+
+
+def detail_in(body: bytes) -> Detail:
+    """Where the body of the request is refused, as a refusal's reply says."""
+    told = object_in(body)
+    event, field, want = told.get("event"), told.get("field"), told.get("want")
+    return Detail(
+        event - 1 if isinstance(event, int) and event > 0 else None,
+        field if isinstance(field, str) else None,
+        want if isinstance(want, str) else None,
+    )
 
 
 def seconds_in(value: Optional[str]) -> float:

@@ -116,6 +116,7 @@ def failure(error):
     told = {"kind": KINDS[type(error)], "text": str(error), "may_be_booked": error.may_be_booked}
     if isinstance(error, Refused):
         told.update(name=error.name, status=error.status)
+        told.update(error.detail._asdict())
     if isinstance(error, EventsRefused):
         first = getattr(error, "first", error.refused[0])
         told.update(event=first[0], name=first[1].name)

@@ -12,12 +12,25 @@ export declare class LedgerError extends Error {
     readonly name: string;
     constructor(text: string, mayBeBooked?: boolean, options?: ErrorOptions);
 }
-/** The service has refused the request, by a name of docs/MESSAGES.md such as `no_account`. */
+/**
+ * Where the body of a request is refused. `want` says what is wanted there, and `place` is that of the event
+ * or id in the call's list, counted from 0.
+ */
+export interface Detail {
+    readonly place?: number;
+    readonly field?: string;
+    readonly want?: string;
+}
+/**
+ * The service has refused the request, by a name of docs/MESSAGES.md such as `no_account`. `detail` says where
+ * the body is refused, if it is.
+ */
 export declare class Refused extends LedgerError {
     readonly status: number;
     readonly refusal: string;
+    readonly detail: Detail;
     readonly name = "Refused";
-    constructor(status: number, refusal: string, mayBeBooked?: boolean);
+    constructor(status: number, refusal: string, mayBeBooked?: boolean, detail?: Detail);
 }
 /** No answer came before the deadline; the last failure is the error's `cause`. */
 export declare class Unanswered extends LedgerError {

@@ -15,16 +15,25 @@ export class LedgerError extends Error {
         this.mayBeBooked = mayBeBooked;
     }
 }
-/** The service has refused the request, by a name of docs/MESSAGES.md such as `no_account`. */
+/**
+ * The service has refused the request, by a name of docs/MESSAGES.md such as `no_account`. `detail` says where
+ * the body is refused, if it is.
+ */
 export class Refused extends LedgerError {
     status;
     refusal;
+    detail;
     name = "Refused";
-    constructor(status, refusal, mayBeBooked = false) {
-        super(`${refusal} (${status})`, mayBeBooked);
+    constructor(status, refusal, mayBeBooked = false, detail = {}) {
+        super(`${refusal} (${status})${textOf(detail)}`, mayBeBooked);
         this.status = status;
         this.refusal = refusal;
+        this.detail = detail;
     }
+}
+function textOf({ place, field, want }) {
+    const event = place === undefined ? "" : `event ${place}: `;
+    return want === undefined ? "" : `: ${event}${field === undefined ? "" : `${field}: `}want ${want}`;
 }
 /** No answer came before the deadline; the last failure is the error's `cause`. */
 export class Unanswered extends LedgerError {

@@ -5,6 +5,7 @@
  * currency's smallest unit, timestamps are nanoseconds since 1970, ids have 128 bits.
  */
 export { BadReply, EventsRefused, LedgerError, Refused, Unanswered } from "./errors.js";
+export type { Detail } from "./errors.js";
 export { newId } from "./ids.js";
 export { Ledger } from "./ledger.js";
 export type { CallOptions, LedgerOptions } from "./ledger.js";

@@ -3,7 +3,7 @@ import { accountStands, chainsOf, idsToLookUp, mayStand, transferStands } from "
 import { BadReply, LedgerError, Refused } from "./errors.js";
 import { FilterFlag, MAX_EVENTS, QueryFlag } from "./records.js";
 import { Results, accountResults, transferResults } from "./results.js";
-import { Transport, failureIn, refusalIn } from "./transport.js";
+import { Transport, detailIn, failureIn, refusalIn } from "./transport.js";
 import * as wire from "./wire.js";
 const BOTH_SIDES = FilterFlag.debits | FilterFlag.credits;
 const HEALTH_WITHIN = 10000;
@@ -233,7 +233,8 @@ function readBody(message, reply, read) {
     if (reply.status !== 200) {
         const name = refusalIn(reply.status, reply.body);
         if (name !== undefined) {
-            throw new Refused(reply.status, name, message.isBatch && reply.isRepeated);
+            const isOpen = message.isBatch && reply.isRepeated;
+            throw new Refused(reply.status, name, isOpen, detailIn(reply.body));
         }
         throw new BadReply(`status ${reply.status} without a refusal's name`, message.isBatch);
     }

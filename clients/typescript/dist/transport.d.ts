@@ -7,6 +7,7 @@
  * `busy` or `too_much`. The ledger allows that for every message: it never books an id twice. Every other
  * reply is final.
  */
+import type { Detail } from "./errors.js";
 /** A request. `isBatch`: after a lost answer it may be booked. */
 export interface Message {
     readonly method: "GET" | "POST";
@@ -41,6 +42,8 @@ export interface Until {
 }
 /** The name of the ledger's refusal, if the reply is one. */
 export declare function refusalIn(status: number, body: string): string | undefined;
+/** Where the body of the request is refused, as the reply of a refusal says. */
+export declare function detailIn(body: string): Detail;
 /** The failure that an answer reports, or undefined if the answer is final. */
 export declare function failureIn(answer: Answer): Failure | undefined;
 /** Sends messages to one address with one key, at most `connections` at once. */

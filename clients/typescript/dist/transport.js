@@ -38,6 +38,15 @@ export function refusalIn(status, body) {
         throw error;
     }
 }
+/** Where the body of the request is refused, as the reply of a refusal says. */
+export function detailIn(body) {
+    const { event, field, want } = objectIn(body);
+    return {
+        ...(typeof event === "number" && event > 0 ? { place: event - 1 } : {}),
+        ...(typeof field === "string" ? { field } : {}),
+        ...(typeof want === "string" ? { want } : {}),
+    };
+}
 /** The failure that an answer reports, or undefined if the answer is final. */
 export function failureIn(answer) {
     const name = refusalIn(answer.status, answer.body);
@@ -137,7 +146,7 @@ export class Transport {
     async #exchange(message, signal) {
         const response = await fetch(this.#base + message.path, {
             method: message.method,
-            headers: { "x-ledger-key": this.#key },
+            headers: { "x-ledger-key": this.#key, "x-ledger-detail": "1" },
             body: message.body,
             redirect: "manual",
             signal,

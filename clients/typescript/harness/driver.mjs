@@ -90,7 +90,9 @@ function failure(error) {
   }
   if (!(error instanceof LedgerError)) throw error;
   const told = { text: error.message, may_be_booked: error.mayBeBooked };
-  if (error instanceof Refused) Object.assign(told, { name: error.refusal, status: error.status });
+  if (error instanceof Refused) {
+    Object.assign(told, { name: error.refusal, status: error.status }, error.detail);
+  }
   if (error instanceof EventsRefused) {
     Object.assign(told, { event: error.first.place, name: error.first.result.name });
   }

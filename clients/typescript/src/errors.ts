@@ -23,7 +23,20 @@ export class LedgerError extends Error {
   }
 }
 
-/** The service has refused the request, by a name of docs/MESSAGES.md such as `no_account`. */
+/**
+ * Where the body of a request is refused. `want` says what is wanted there, and `place` is that of the event
+ * or id in the call's list, counted from 0.
+ */
+export interface Detail {
+  readonly place?: number;
+  readonly field?: string;
+  readonly want?: string;
+}
+
+/**
+ * The service has refused the request, by a name of docs/MESSAGES.md such as `no_account`. `detail` says where
+ * the body is refused, if it is.
+ */
 export class Refused extends LedgerError {
   override readonly name = "Refused";
 
@@ -31,9 +44,15 @@ export class Refused extends LedgerError {
     readonly status: number,
     readonly refusal: string,
     mayBeBooked = false,
+    readonly detail: Detail = {},
   ) {
-    super(`${refusal} (${status})`, mayBeBooked);
+    super(`${refusal} (${status})${textOf(detail)}`, mayBeBooked);
   }
+}
+
+function textOf({ place, field, want }: Detail): string {
+  const event = place === undefined ? "" : `event ${place}: `;
+  return want === undefined ? "" : `: ${event}${field === undefined ? "" : `${field}: `}want ${want}`;
 }
 
 /** No answer came before the deadline; the last failure is the error's `cause`. */

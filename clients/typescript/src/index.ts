@@ -6,6 +6,7 @@
  */
 
 export { BadReply, EventsRefused, LedgerError, Refused, Unanswered } from "./errors.js";
+export type { Detail } from "./errors.js";
 export { newId } from "./ids.js";
 export { Ledger } from "./ledger.js";
 export type { CallOptions, LedgerOptions } from "./ledger.js";

@@ -20,7 +20,7 @@ import type {
 } from "./records.js";
 import { Results, accountResults, transferResults } from "./results.js";
 import type { AccountResultName, Result, TransferResultName } from "./results.js";
-import { Transport, failureIn, refusalIn } from "./transport.js";
+import { Transport, detailIn, failureIn, refusalIn } from "./transport.js";
 import type { Message, Reply, Until } from "./transport.js";
 import * as wire from "./wire.js";
 
@@ -317,7 +317,8 @@ function readBody<T>(message: Message, reply: Reply, read: (body: string) => T):
   if (reply.status !== 200) {
     const name = refusalIn(reply.status, reply.body);
     if (name !== undefined) {
-      throw new Refused(reply.status, name, message.isBatch && reply.isRepeated);
+      const isOpen = message.isBatch && reply.isRepeated;
+      throw new Refused(reply.status, name, isOpen, detailIn(reply.body));
     }
     throw new BadReply(`status ${reply.status} without a refusal's name`, message.isBatch);
   }

@@ -9,6 +9,7 @@
  */
 
 import { Unanswered } from "./errors.js";
+import type { Detail } from "./errors.js";
 import { Unreadable, objectIn } from "./wire.js";
 
 const FIRST_PAUSE = 50;
@@ -74,6 +75,16 @@ export function refusalIn(status: number, body: string): string | undefined {
     if (error instanceof Unreadable) return undefined;
     throw error;
   }
+}
+
+/** Where the body of the request is refused, as the reply of a refusal says. */
+export function detailIn(body: string): Detail {
+  const { event, field, want } = objectIn(body);
+  return {
+    ...(typeof event === "number" && event > 0 ? { place: event - 1 } : {}),
+    ...(typeof field === "string" ? { field } : {}),
+    ...(typeof want === "string" ? { want } : {}),
+  };
 }
 
 /** The failure that an answer reports, or undefined if the answer is final. */
@@ -174,7 +185,7 @@ export class Transport {
   async #exchange(message: Message, signal: AbortSignal): Promise<Answer> {
     const response = await fetch(this.#base + message.path, {
       method: message.method,
-      headers: { "x-ledger-key": this.#key },
+      headers: { "x-ledger-key": this.#key, "x-ledger-detail": "1" },
       body: message.body,
       redirect: "manual",
       signal,

@@ -23,6 +23,7 @@ meant_by body = meaning_of route.Transfers [] body
 -- the body that shows an outcome, or the refusal
 abbrev pub shown : Outcome → Result (List ℕ) Refusal
 shown (told.Refused refusal) = Err refusal
+shown (told.Detailed refusal fault) = Err refusal
 shown (told.AccountResults clock results) = Ok (compact_text (account_batch_data clock results))
 shown (told.TransferResults clock results) = Ok (compact_text (transfer_batch_data clock results))
 shown (told.Accounts clock accounts) = Ok (compact_text (accounts_data clock accounts))

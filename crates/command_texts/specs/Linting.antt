@@ -4,7 +4,7 @@ use Rattle.std.specs.Io.KnownBytes.{Appends}
 use Rattle.ledger_http.specs.declared.route.Route.{Route}
 use Rattle.ledger_http.specs.Routes.{posted_route}
 use Rattle.wire.specs.declared.body_fault.BodyFault.{BodyFault}
-use Rattle.wire.specs.Faults.{IsBodyFaultOn, place_in, refusal_in, told_place, told_refusal}
+use Rattle.wire.specs.Faults.{fault_on, refusal_in, told_refusal}
 use Rattle.command_texts.specs.BodyLines.{body_line}
 
 -- `ok` and 0 where the service takes the body on the route
@@ -20,8 +20,7 @@ abbrev pub TellsBad : Route → List ℕ → Option (List ℕ) → Option (List 
 TellsBad route body old new status =
     (fault : BodyFault)
     × (refusal_in route body ≡ told_refusal (Some fault))
-    × (place_in route body ≡ told_place (Some fault))
-    × IsBodyFaultOn route body fault
+    × (fault_on route body ≡ Some fault)
     × (status ≡ 1)
     × Appends old new (body_line fault)
 

@@ -1,8 +1,8 @@
 //! Why a body is refused, and where, as `lint` tells it.
 ghost use Rattle.std.specs.Prelude.{◌≡◌, IfOk};
 ghost use Rattle.std.specs.String.{string_bytes};
-ghost use Rattle.command_texts.specs.BodyLines.{body_line, field_text, noun, place_text};
-ghost use Rattle.command_texts.specs.BodyLines.{wanted_text};
+ghost use Rattle.command_texts.specs.BodyLines.{body_line, field_text, lack_text, noun};
+ghost use Rattle.command_texts.specs.BodyLines.{place_text};
 
 use std::alloc::{AllocError, Global};
 use wire::{BodyFault, Wanted};
@@ -13,8 +13,8 @@ pub(crate) fn body_line(alloc: Global, fault: &BodyFault) -> Result<String, Allo
 {
     let place = place_text(alloc, fault)?;
     let field = field_text(alloc, fault)?;
-    let wanted = wanted_text(alloc, fault.wanted)?;
-    Ok(format!(in alloc; "{place}{field}{wanted}\n")?)
+    let lack = lack_text(alloc, fault.wanted)?;
+    Ok(format!(in alloc; "{place}{field}{lack}\n")?)
 }
 
 // What stands in a list: events, or in a look-up ids, which have no fields.
@@ -30,10 +30,9 @@ fn noun(fault: &BodyFault) -> &'static str
 fn place_text(alloc: Global, fault: &BodyFault) -> Result<String, AllocError>
     ensures { IfOk result (λ text. string_bytes text ≡ place_text fault.now) }
 {
-    match fault.item {
-        Some(before) => {
+    match fault.event {
+        Some(number) => {
             let noun = noun(fault);
-            let number = u128::from(before as u64) + 1;
             format!(in alloc; "{noun} {number}: ")
         }
         None => Ok(String::new(alloc)),
@@ -44,26 +43,23 @@ fn field_text(alloc: Global, fault: &BodyFault) -> Result<String, AllocError>
     ensures { IfOk result (λ text. string_bytes text ≡ field_text fault.now) }
 {
     match &fault.field {
-        Some(name) => format!(in alloc; "{name}: "),
+        Some(name) => {
+            let name = name.as_str();
+            format!(in alloc; "{name}: ")
+        }
         None => Ok(String::new(alloc)),
     }
 }
 
-fn wanted_text(alloc: Global, wanted: Wanted) -> Result<String, AllocError>
-    ensures { IfOk result (λ text. string_bytes text ≡ wanted_text wanted) }
+fn lack_text(alloc: Global, wanted: Wanted) -> Result<String, AllocError>
+    ensures { IfOk result (λ text. string_bytes text ≡ lack_text wanted) }
 {
-    let text = match wanted {
-        Wanted::Json => "not JSON",
-        Wanted::List => "not a list",
-        Wanted::Few => "more than 1,000 events or ids",
-        Wanted::Object => "not an object",
-        Wanted::KnownName => "a field that nobody knows",
-        Wanted::Digits128 => "not a string of decimal digits, with no zero in front, below 2^128",
-        Wanted::Digits64 => "not a string of decimal digits, with no zero in front, below 2^64",
-        Wanted::Limit => "not a whole number from 1 to 1,000",
-        Wanted::WholeBelow(bound) => {
-            return format!(in alloc; "not a whole number below {bound}");
+    match wanted {
+        Wanted::Few => String::from_str(alloc, "more than 1,000 events or ids"),
+        Wanted::KnownName => String::from_str(alloc, "a field that nobody knows"),
+        _ => {
+            let want = wanted.text(alloc)?;
+            format!(in alloc; "not {want}")
         }
-    };
-    String::from_str(alloc, text)
+    }
 }

@@ -1,7 +1,7 @@
 -- What the first bad item of a list tells of the body.
-use Rattle.std.proofs.Common.{◌≡◌, ℕ, suc, ◌<◌, ◌≤◌, true, false, List, ◌∷◌, length, Option}
+use Rattle.std.proofs.Common.{◌≡◌, ℕ, suc, ◌+◌, ◌<◌, ◌≤◌, true, false, List, ◌∷◌, length, Option}
 use Rattle.std.proofs.Common.{Some, None, option_map, refl, ap}
-use Rattle.std.specs.Prelude.{is_some, option_and_then, if◌then◌else◌}
+use Rattle.std.specs.Prelude.{Bool, nat_lt, is_some, option_and_then, if◌then◌else◌}
 use Rattle.serde_json.specs.Data.{Data, Items, no_items, item}
 use Rattle.serde_json.specs.Find.{as_array}
 use Rattle.serde_json.specs.View.{items_view}
@@ -9,11 +9,11 @@ use Rattle.serde_json.specs.declared.value.Value.{Value}
 use Rattle.serde_json.proofs.Views.{items_len-items_view}
 use Rattle.ledger_http.specs.declared.refusal.Refusal.TheVariants.{BodyNotJson, BadField}
 use Rattle.ledger_http.specs.declared.refusal.Refusal.TheVariants.{TooManyEvents}
-use Rattle.wire.specs.Body.{json_of, each_of, list_in}
-use Rattle.wire.specs.declared.body_fault.BodyFault.{BodyFault}
-use Rattle.wire.specs.declared.wanted.Wanted.TheVariants.{Few}
-use Rattle.wire.specs.Faults.{IsListFault, first_bad_in, refused}
-use Rattle.wire.specs.Misfits.{Expected, first_bad}
+use Rattle.wire.specs.Body.{json_of, each_of, list_in, object_in}
+use Rattle.wire.specs.declared.misfit.Misfit.{Misfit}
+use Rattle.wire.specs.declared.wanted.Wanted.TheVariants.{Json, List as AList, Few}
+use Rattle.wire.specs.Faults.{fault_for, list_fault, of_body, refused}
+use Rattle.wire.specs.Misfits.{Expected, IsMisfitAt, first_bad, told_by}
 use Rattle.wire.proofs.Lists.{HasItems, list_in_few, list_in_many, list_in_bad}
 
 -- where no item is bad, all mean something
@@ -58,10 +58,6 @@ pub not_json : {E : Type 0} (meant_by : Data → Option E) (body : List ℕ)
 unfolding list_in
 not_json meant_by body none = rw none
 
-pub no_place : {E : Type 0} (meant_by : Data → Option E) (body : List ℕ)
-    → json_of body ≡ None → first_bad_in meant_by body ≡ None
-no_place meant_by body none = rw none
-
 pub not_list : {E : Type 0} (meant_by : Data → Option E) (body : List ℕ) (d : Data)
     → json_of body ≡ Some d → as_array d ≡ None
     → refused (list_in meant_by body) ≡ Some BadField
@@ -92,9 +88,33 @@ pub bad_item : {E : Type 0} (meant_by : Data → Option E) (body : List ℕ) (vs
 bad_item meant_by body vs n has is =
     ap refused (list_in_bad meant_by body vs has (one_bad meant_by 0 (items_view vs) n is))
 
-pub has_many : (expected : Expected) (body : List ℕ) (vs : List Value) (fault : BodyFault)
-    → HasItems body vs → 1000 < length vs
-    → fault.item ≡ None → fault.field ≡ None → fault.wanted ≡ Few → IsListFault expected body fault
-has_many expected body vs fault has many no_place no_field wanted =
-    rw (no_place, no_field, wanted)
-    (items_view vs, rw has.is has.list, rw items_len-items_view many)
+-- and the fault of it
+
+pub fault_json : {E : Type 0} (meant_by : Data → Option E) (expected : Expected) (body : List ℕ)
+    → json_of body ≡ None → list_fault meant_by expected body ≡ Some (of_body Json)
+fault_json meant_by expected body none = rw none refl
+
+pub fault_list : {E : Type 0} (meant_by : Data → Option E) (expected : Expected) (body : List ℕ)
+    (d : Data) → json_of body ≡ Some d → as_array d ≡ None
+    → list_fault meant_by expected body ≡ Some (of_body AList)
+fault_list meant_by expected body d is none = rw (is, none) refl
+
+pub fault_item : {E : Type 0} (meant_by : Data → Option E) (expected : Expected) (body : List ℕ)
+    (vs : List Value) (place : ℕ) (misfit : Misfit)
+    → HasItems body vs → first_bad meant_by 0 (items_view vs) ≡ Some place
+    → IsMisfitAt expected (items_view vs) place misfit
+    → list_fault meant_by expected body ≡ Some (fault_for (Some (place + 1)) (told_by misfit))
+fault_item meant_by expected body vs place misfit has is (d, at, why) =
+    rw (has.is, has.list, is, at, why) refl
+
+pub bad_object : {E : Type 0} (meant_by : Data → Option E) (body : List ℕ) (d : Data)
+    → json_of body ≡ Some d → meant_by d ≡ None
+    → refused (object_in meant_by body) ≡ Some BadField
+bad_object meant_by body d is none = rw (is, none) refl
+
+pub fault_number : {E : Type 0} (meant_by : Data → Option E) (expected : Expected) (body : List ℕ)
+    (vs : List Value) (many : Bool) → HasItems body vs → first_bad meant_by 0 (items_view vs) ≡ None
+    → nat_lt 1000 (length vs) ≡ many
+    → list_fault meant_by expected body ≡ (if many then Some (of_body Few) else None)
+fault_number meant_by expected body vs many has none are =
+    rw (has.is, has.list, none, items_len-items_view, are) refl

@@ -1,5 +1,6 @@
--- The events, filters and queries that JSON objects mean, each by its fields: those that it may have
--- with the number that is wanted in each, and what they tell where each of them is good.
+-- The events, filters and queries that JSON objects mean. A table has the fields that an object may
+-- have, in the order in which they are read, with the number wanted in each. Behind it stands what
+-- they say where each of them is good.
 use Rattle.std.specs.Prelude.{ℕ, ◌^◌, [], ◌∷◌, ◌++◌, codes, Option, Some, None}
 use Rattle.std.specs.Prelude.{nat_lt, if◌then◌else◌}
 use Rattle.serde_json.specs.Data.{Data}
@@ -39,12 +40,11 @@ tags_from d =
 -- the fields of an account event
 abbrev pub account_fields : KnownFields
 account_fields =
-    (codes "id", Digits128) ∷ (codes "debits_pending", Digits128)
+    tag_fields
+    ++ (codes "id", Digits128) ∷ (codes "debits_pending", Digits128)
     ∷ (codes "debits_posted", Digits128) ∷ (codes "credits_pending", Digits128)
-    ∷ (codes "credits_posted", Digits128) ∷ (codes "user_data_128", Digits128)
-    ∷ (codes "user_data_64", Digits64) ∷ (codes "user_data_32", WholeBelow (2 ^ 32))
-    ∷ (codes "ledger", WholeBelow (2 ^ 32)) ∷ (codes "code", WholeBelow (2 ^ 16))
-    ∷ (codes "flags", WholeBelow (2 ^ 16)) ∷ (codes "timestamp", Digits64) ∷ []
+    ∷ (codes "credits_posted", Digits128) ∷ (codes "flags", WholeBelow (2 ^ 16))
+    ∷ (codes "timestamp", Digits64) ∷ []
 
 -- the account event of these fields, if each of them is good
 unfoldable pub account_from : Data → Option AccountEvent
@@ -79,13 +79,11 @@ account_of d = object_of (known_names account_fields) account_from d
 -- the fields of a transfer event
 abbrev pub transfer_fields : KnownFields
 transfer_fields =
-    (codes "id", Digits128) ∷ (codes "debit_account_id", Digits128)
+    tag_fields
+    ++ (codes "id", Digits128) ∷ (codes "debit_account_id", Digits128)
     ∷ (codes "credit_account_id", Digits128) ∷ (codes "amount", Digits128)
-    ∷ (codes "pending_id", Digits128) ∷ (codes "user_data_128", Digits128)
-    ∷ (codes "user_data_64", Digits64) ∷ (codes "user_data_32", WholeBelow (2 ^ 32))
-    ∷ (codes "timeout", WholeBelow (2 ^ 32)) ∷ (codes "ledger", WholeBelow (2 ^ 32))
-    ∷ (codes "code", WholeBelow (2 ^ 16)) ∷ (codes "flags", WholeBelow (2 ^ 16))
-    ∷ (codes "timestamp", Digits64) ∷ []
+    ∷ (codes "pending_id", Digits128) ∷ (codes "timeout", WholeBelow (2 ^ 32))
+    ∷ (codes "flags", WholeBelow (2 ^ 16)) ∷ (codes "timestamp", Digits64) ∷ []
 
 -- the transfer event of these fields, if each of them is good
 unfoldable pub transfer_from : Data → Option TransferEvent

@@ -4,6 +4,8 @@ pub mod Misfits
 pub mod Body
 pub mod Meaning
 pub mod Faults
+pub mod Wants
 pub mod Reply
 pub mod Told
+pub mod Asked
 pub mod Writing

@@ -1,6 +1,6 @@
 -- Where a body is refused, and for want of what.
 use Rattle.std.specs.Prelude.{◌≡◌, ℕ, suc, ◌^◌, Bool, true, false, not, List, []}
-use Rattle.std.specs.Prelude.{Option, Some, None, is_some, is_none, option_map, option_and_then}
+use Rattle.std.specs.Prelude.{Option, Some, None, is_some, is_none, option_map}
 use Rattle.std.specs.Prelude.{if◌then◌else◌}
 use Rattle.std.specs.List.{find}
 use Rattle.std.specs.Option.{option_map_or}
@@ -15,8 +15,8 @@ use Rattle.wire.specs.declared.wanted.Wanted.TheVariants.{Json, List as AList, F
 use Rattle.wire.specs.declared.wanted.Wanted.TheVariants.{KnownName, Digits128, Digits64, WholeBelow}
 use Rattle.wire.specs.declared.wanted.Wanted.TheVariants.{Limit}
 use Rattle.wire.specs.Body.{id_of}
-use Rattle.wire.specs.Fields.{KnownFields, known_names, wanted_in, wide, whole, names_of}
-use Rattle.wire.specs.Fields.{is_among}
+use Rattle.wire.specs.Fields.{KnownFields, known_names, wide, whole, names_of}
+use Rattle.wire.specs.Fields.{is_among, has_only}
 use Rattle.wire.specs.KnownObjects.{limit_of}
 
 -- the refusal of a body that has not what is wanted
@@ -52,27 +52,47 @@ lacks_number (WholeBelow bound) field = is_none (whole bound field)
 lacks_number Limit field = is_none (limit_of field)
 lacks_number other field = false
 
--- the field of this name has not the number that is wanted
-abbrev pub LacksNumber : Data → List ℕ → Wanted → Type 0
-LacksNumber d name wanted = lacks_number wanted (get name d) ≡ true
+-- why a value is not what is asked for: in which field, unless it is the value itself, and what is
+-- wanted there
+pub record Reason : Type 0 where
+  pub field : Option (List ℕ)
+  pub wanted : Wanted
 
--- a value has not what is wanted: in this field, if one is told
-abbrev pub Lacks : Expected → Data → Option (List ℕ) → Wanted → Type 0
-Lacks (an_object fields) d None Object = as_object d ≡ None
-Lacks (an_object fields) d (Some name) KnownName =
-    first_stranger (known_names fields) d ≡ Some name
-Lacks (an_object fields) d (Some name) wanted =
-    (wanted_in fields name ≡ Some wanted) × LacksNumber d name wanted
-Lacks an_id d None Digits128 = id_of d ≡ None
-Lacks expected d field wanted = ⊥
+-- a field of this name, and the value itself
+abbrev pub at_field : List ℕ → Wanted → Reason
+at_field name wanted = record { field = Some name; wanted = wanted }
 
--- the field that is told, if one is
+abbrev pub at_value : Wanted → Reason
+at_value wanted = record { field = None; wanted = wanted }
+
+-- the first of the fields, in the order of their table, that has not the number wanted in it
+abbrev pub bad_number : KnownFields → Data → Option Reason
+bad_number fields d =
+    option_map (λ f. at_field f.0 f.1) (find (λ f. lacks_number f.1 (get f.0 d)) fields)
+
+-- a value has a field that nobody knows, or is no object
+abbrev pub no_known_object : List (List ℕ) → Data → Reason
+no_known_object known d =
+    option_map_or (λ name. at_field name KnownName) (first_stranger known d) (at_value Object)
+
+-- why a value is not what is asked for, if it is not
+abbrev pub reason_of : Expected → Data → Option Reason
+reason_of (an_object fields) d =
+    if has_only (known_names fields) d
+    then bad_number fields d
+    else Some (no_known_object (known_names fields) d)
+reason_of an_id d = if is_none (id_of d) then Some (at_value Digits128) else None
+
+-- the field that a misfit names, if any, and its whole reason
 abbrev pub field_of : Misfit → Option (List ℕ)
 field_of misfit = option_map (λ name. name.now) misfit.field
 
+abbrev pub told_by : Misfit → Reason
+told_by misfit = record { field = field_of misfit; wanted = misfit.wanted }
+
 -- a value is not what is asked for, and this tells why
 abbrev pub IsMisfit : Expected → Data → Misfit → Type 0
-IsMisfit expected d misfit = Lacks expected d (field_of misfit) misfit.wanted
+IsMisfit expected d misfit = reason_of expected d ≡ Some (told_by misfit)
 
 -- the item at this place is none, and this tells why
 abbrev pub IsMisfitAt : Expected → Items → ℕ → Misfit → Type 0
@@ -82,13 +102,12 @@ IsMisfitAt expected items place misfit =
 -- this tells the field of this name, which has not this number
 abbrev pub IsBadField : List ℕ → Wanted → Data → Misfit → Type 0
 IsBadField name wanted d misfit =
-    (field_of misfit ≡ Some name) × (misfit.wanted ≡ wanted) × LacksNumber d name wanted
+    (field_of misfit ≡ Some name) × (misfit.wanted ≡ wanted)
+    × (lacks_number wanted (get name d) ≡ true)
 
--- this tells a field that has not the number wanted in it
+-- this tells the first of the fields that has not the number wanted in it
 abbrev pub IsBadNumber : KnownFields → Data → Misfit → Type 0
-IsBadNumber fields d misfit =
-    (option_and_then (wanted_in fields) (field_of misfit) ≡ Some misfit.wanted)
-    × (lacks_number misfit.wanted (option_and_then (λ name. get name d) (field_of misfit)) ≡ true)
+IsBadNumber fields d misfit = bad_number fields d ≡ Some (told_by misfit)
 
 -- the first item that means nothing, where they are counted from this number on
 abbrev pub first_bad : {E : Type 0} → (Data → Option E) → ℕ → Items → Option ℕ

@@ -1,5 +1,7 @@
 -- The JSON of replies. Keys stand in byte order.
-use Rattle.std.specs.Prelude.{ℕ, List, [], ◌∷◌, codes, map}
+use Rattle.std.specs.Prelude.{ℕ, nat_lt, List, [], ◌∷◌, ◌++◌, codes, length, map}
+use Rattle.std.specs.Prelude.{Option, None, Some, if◌then◌else◌}
+use Rattle.std.specs.Option.{option_map_or}
 use Rattle.serde_json.specs.Data.{Data, number, unsigned, string, boolean, array, object, Members}
 use Rattle.serde_json.specs.Data.{member, no_members}
 use Rattle.serde_json.specs.View.{items_of}
@@ -13,11 +15,13 @@ use Rattle.records.specs.declared.hold.Hold.{Hold}
 use Rattle.records.specs.declared.reply.EventResult.{EventResult}
 use Rattle.records.specs.declared.transfer.Transfer.{Transfer}
 use Rattle.records.specs.declared.transfer_result.TransferResult.{TransferResult}
+use Rattle.wire.specs.declared.body_fault.BodyFault.{BodyFault}
 use Rattle.wire.specs.declared.members.Member.{Member}
 use Rattle.wire.specs.declared.members.Told.{Told}
 use Rattle.wire.specs.declared.members.Told.TheVariants.{Whole, U64, U128, Text, Flag}
 use Rattle.wire.specs.declared.outcome.Entries.{Entries}
 use Rattle.wire.specs.declared.outcome.Entries.TheVariants.{Accounts, Transfers, OpenHolds}
+use Rattle.wire.specs.Wants.{want_text}
 use Rattle.records.specs.AccountResultNames as account
 use Rattle.records.specs.TransferResultNames as transfer
 
@@ -219,3 +223,22 @@ page_data clock next (OpenHolds holds) =
 -- a refusal by its name
 abbrev pub refusal_data : List ℕ → Data
 refusal_data name = object_with ((codes "error", string name) ∷ [])
+
+-- the event or id, counted from 1, if the fault has one
+abbrev pub event_members : Option ℕ → List (List ℕ × Data)
+event_members event = option_map_or (λ number. (codes "event", whole_data number) ∷ []) event []
+
+-- the field, if the fault has one whose name has at most 64 bytes
+abbrev pub field_members : Option (List ℕ) → List (List ℕ × Data)
+field_members None = []
+field_members (Some name) =
+    if nat_lt 64 (length name) then [] else (codes "field", string name) ∷ []
+
+-- a refusal of a body by its name, with where it is, and what is wanted there
+abbrev pub fault_data : List ℕ → BodyFault → Data
+fault_data name fault =
+    object_with (
+    (codes "error", string name)
+    ∷ event_members fault.event
+    ++ field_members fault.field
+    ++ (codes "want", string (want_text fault.wanted)) ∷ [])

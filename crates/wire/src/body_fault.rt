@@ -1,30 +1,28 @@
-use crate::Wanted;
 use crate::misfit::Misfit;
+use crate::{FieldName, Wanted};
 use std::alloc::{AllocError, Global};
 
 /// Why the service refuses a body, and where.
 #[derive(Debug, Drop)]
 pub struct BodyFault {
-    /// Which of a list's events or ids is refused, counted from 0, if it is one of them.
-    pub item: Option<usize>,
+    /// Which of a list's events or ids is refused, counted from 1, if it is one of them.
+    pub event: Option<usize>,
     /// Which of its fields, or of an object's, if it is one.
-    pub field: Option<String>,
+    pub field: Option<FieldName>,
     pub wanted: Wanted,
 }
 
 impl BodyFault {
-    ghost use Rattle.std.specs.Prelude.{◌≡◌, None, IfOk};
-    ghost use Rattle.wire.specs.Faults.{told_field};
-    ghost use Rattle.wire.specs.Misfits.{field_of};
+    ghost use Rattle.std.specs.Prelude.{◌≡◌, IfOk};
+    ghost use Rattle.wire.specs.Faults.{fault_for, of_body};
+    ghost use Rattle.wire.specs.Misfits.{told_by};
 
     // A body as a whole is refused.
     pub(crate) fn of_body(wanted: Wanted) -> BodyFault
-        ensures item { result.item ≡ None }
-        ensures field { result.field ≡ None }
-        ensures wanted { result.wanted ≡ wanted }
+        ensures { result ≡ of_body wanted }
     {
         BodyFault {
-            item: None,
+            event: None,
             field: None,
             wanted,
         }
@@ -33,19 +31,17 @@ impl BodyFault {
     // An object is, or an item of a list.
     pub(crate) fn of(
         alloc: Global,
-        item: Option<usize>,
+        event: Option<usize>,
         misfit: Misfit<'_>,
     ) -> Result<BodyFault, AllocError>
-        ensures item { IfOk result (λ fault. fault.item ≡ item) }
-        ensures field { IfOk result (λ fault. told_field fault ≡ field_of misfit.entry) }
-        ensures wanted { IfOk result (λ fault. fault.wanted ≡ misfit.entry.wanted) }
+        ensures { IfOk result (λ fault. fault ≡ fault_for event (told_by misfit.entry)) }
     {
         let field = match misfit.field {
-            Some(name) => Some(String::from_str(alloc, name)?),
+            Some(name) => Some(FieldName::from(String::from_str(alloc, name)?)),
             None => None,
         };
         Ok(BodyFault {
-            item,
+            event,
             field,
             wanted: misfit.wanted,
         })

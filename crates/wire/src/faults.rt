@@ -1,12 +1,12 @@
 //! Where the service refuses a body.
-ghost use Rattle.std.specs.Prelude.{◌≡◌, ◌≢◌, IfOk, IfSome, List, None, ℕ, option_map};
+ghost use Rattle.std.specs.Prelude.{◌≡◌, ◌<◌, ◌≢◌, IfOk, IfSome, List, length, ℕ, option_map};
 ghost use Rattle.serde_json.specs.View.{items_view};
 ghost use Rattle.wire.specs.Body.{list_in, object_in};
 ghost use Rattle.wire.specs.Fields.{known_names, object_of};
 ghost use Rattle.wire.specs.Meaning.{meaning_of};
 ghost use Rattle.wire.specs.Misfits.{IsMisfitAt, first_bad};
-ghost use Rattle.wire.specs.Faults.{IsBodyFaultOn, IsListFault, IsObjectFault, first_bad_in, place_in};
-ghost use Rattle.wire.specs.Faults.{refusal_in, refused, told_place, told_refusal};
+ghost use Rattle.wire.specs.Faults.{fault_on, list_fault, object_fault, refusal_in, refused};
+ghost use Rattle.wire.specs.Faults.{told_refusal};
 ghost use Rattle.ledger_http.specs.declared.route.Route.{Route as ARoute};
 
 use crate::body::{MAX_ITEMS, read_json};
@@ -23,8 +23,7 @@ use std::alloc::Global;
 /// does not look at the body of a statement.
 pub fn fault_in(alloc: Global, route: Route, body: &[u8]) -> Result<Option<BodyFault>, Unavailable>
     ensures refusal { IfOk result (λ fault. told_refusal fault ≡ refusal_in route body.now) }
-    ensures place { IfOk result (λ fault. told_place fault ≡ place_in route body.now) }
-    ensures misfit { IfOk result (λ fault. IfSome fault (IsBodyFaultOn route body.now)) }
+    ensures fault { IfOk result (λ fault. fault ≡ fault_on route body.now) }
 {
     match route {
         Route::Accounts => list_fault::<AccountEvent>(alloc, body),
@@ -51,8 +50,7 @@ pub fn tells_what_is_refused()
 fn list_fault<I: Item>(alloc: Global, body: &[u8]) -> Result<Option<BodyFault>, Unavailable>
     ensures refusal { IfOk result (λ fault.
         told_refusal fault ≡ refused (list_in I.means body.now)) }
-    ensures place { IfOk result (λ fault. told_place fault ≡ first_bad_in I.means body.now) }
-    ensures misfit { IfOk result (λ fault. IfSome fault (IsListFault I.expected body.now)) }
+    ensures fault { IfOk result (λ fault. fault ≡ list_fault I.means I.expected body.now) }
 {
     let value = match read_json(alloc, body) {
         Ok(value) => value,
@@ -63,7 +61,7 @@ fn list_fault<I: Item>(alloc: Global, body: &[u8]) -> Result<Option<BodyFault>, 
         return Ok(Some(BodyFault::of_body(Wanted::List)));
     };
     if let Some(fault) = first_fault::<I>(items) {
-        return Ok(Some(BodyFault::of(alloc, Some(fault.place), fault.misfit)?));
+        return Ok(Some(BodyFault::of(alloc, Some(fault.place + 1), fault.misfit)?));
     }
     if items.len() <= MAX_ITEMS {
         Ok(None)
@@ -72,7 +70,7 @@ fn list_fault<I: Item>(alloc: Global, body: &[u8]) -> Result<Option<BodyFault>, 
     }
 }
 
-// An item of a list that is refused, by its place in the list.
+// An item of a list that is refused, by its place in the list, counted from 0.
 #[derive(Clone, Copy)]
 struct ItemFault<'a> {
     place: usize,
@@ -82,6 +80,7 @@ struct ItemFault<'a> {
 fn first_fault<I: Item>(items: &[Value]) -> Option<ItemFault<'_>>
     ensures place { option_map (λ fault. fault.place) result
         ≡ first_bad I.means 0 (items_view items.now) }
+    ensures within { IfSome result (λ fault. fault.place < length items.now) }
     ensures misfit { IfSome result (λ fault.
         IsMisfitAt I.expected (items_view items.now) fault.place fault.misfit) }
 {
@@ -96,8 +95,8 @@ fn first_fault<I: Item>(items: &[Value]) -> Option<ItemFault<'_>>
 fn object_fault<O: Object>(alloc: Global, body: &[u8]) -> Result<Option<BodyFault>, Unavailable>
     ensures refusal { IfOk result (λ fault. told_refusal fault
         ≡ refused (object_in (object_of (known_names O.fields) O.from_fields) body.now)) }
-    ensures place { IfOk result (λ fault. told_place fault ≡ None) }
-    ensures misfit { IfOk result (λ fault. IfSome fault (IsObjectFault O.fields body.now)) }
+    ensures fault { IfOk result (λ fault. fault
+        ≡ object_fault (object_of (known_names O.fields) O.from_fields) O.fields body.now) }
 {
     let value = match read_json(alloc, body) {
         Ok(value) => value,

@@ -1,12 +1,12 @@
 //! The events, filters and queries that an object in a body tells.
 
-ghost use Rattle.std.specs.Prelude.{◌≡◌, IfErr};
-ghost use Rattle.std.specs.Result.{result_ok};
+ghost use Rattle.std.specs.Prelude.{◌≡◌, IfErr, option_map};
+ghost use Rattle.std.specs.Result.{result_err, result_ok};
 ghost use Rattle.serde_json.specs.View.{view};
 ghost use Rattle.wire.specs.KnownObjects.{account_fields, account_from, filter_fields, filter_from};
 ghost use Rattle.wire.specs.KnownObjects.{page_fields, page_from, query_fields, query_from};
-ghost use Rattle.wire.specs.KnownObjects.{tags_from, transfer_fields, transfer_from};
-ghost use Rattle.wire.specs.Misfits.{IsBadNumber};
+ghost use Rattle.wire.specs.KnownObjects.{tag_fields, tags_from, transfer_fields, transfer_from};
+ghost use Rattle.wire.specs.Misfits.{bad_number, told_by};
 
 use crate::fields::{flags_field, limit_field, u16_field, u32_field, u64_field, u128_field};
 use crate::misfit::Misfit;
@@ -32,15 +32,16 @@ impl Object for AccountEvent {
     fn has_field(name: &str) -> bool {
         matches!(
             name,
-            "id" | "debits_pending"
-                | "debits_posted"
-                | "credits_pending"
-                | "credits_posted"
-                | "user_data_128"
+            "user_data_128"
                 | "user_data_64"
                 | "user_data_32"
                 | "ledger"
                 | "code"
+                | "id"
+                | "debits_pending"
+                | "debits_posted"
+                | "credits_pending"
+                | "credits_posted"
                 | "flags"
                 | "timestamp"
         )
@@ -74,16 +75,17 @@ impl Object for TransferEvent {
     fn has_field(name: &str) -> bool {
         matches!(
             name,
-            "id" | "debit_account_id"
+            "user_data_128"
+                | "user_data_64"
+                | "user_data_32"
+                | "ledger"
+                | "code"
+                | "id"
+                | "debit_account_id"
                 | "credit_account_id"
                 | "amount"
                 | "pending_id"
-                | "user_data_128"
-                | "user_data_64"
-                | "user_data_32"
                 | "timeout"
-                | "ledger"
-                | "code"
                 | "flags"
                 | "timestamp"
         )
@@ -180,8 +182,8 @@ impl Object for QueryFilter {
 #[tactic(auto, unfolding(crate::specs::KnownObjects::page_from))]
 fn read_page(object: &Value) -> Result<PageFilter, Misfit<'static>>
     ensures value { result_ok result ≡ page_from (view object.now) }
-    ensures misfit { IfErr result (IsBadNumber page_fields (view object.now)) }
-    ensures of_query { IfErr result (IsBadNumber query_fields (view object.now)) }
+    ensures misfit { bad_number page_fields (view object.now)
+        ≡ option_map told_by (result_err result) }
 {
     Ok(PageFilter {
         timestamp_min: u64_field(object, "timestamp_min")?,
@@ -194,9 +196,8 @@ fn read_page(object: &Value) -> Result<PageFilter, Misfit<'static>>
 #[tactic(auto, unfolding(crate::specs::KnownObjects::tags_from))]
 fn read_tags(object: &Value) -> Result<Tags, Misfit<'static>>
     ensures value { result_ok result ≡ tags_from (view object.now) }
-    ensures of_account { IfErr result (IsBadNumber account_fields (view object.now)) }
-    ensures of_transfer { IfErr result (IsBadNumber transfer_fields (view object.now)) }
-    ensures of_query { IfErr result (IsBadNumber query_fields (view object.now)) }
+    ensures misfit { bad_number tag_fields (view object.now)
+        ≡ option_map told_by (result_err result) }
 {
     Ok(Tags {
         user_data_128: u128_field(object, "user_data_128")?,

@@ -21,7 +21,7 @@ pub struct Member<'a> {
 // What a member tells.
 #[derive(Clone, Copy, Debug, PartialEq, Eq)]
 pub(crate) enum Told<'a> {
-    Whole(u32),
+    Whole(u64),
     U64(u64),
     U128(u128),
     Text(&'a str),
@@ -31,6 +31,13 @@ pub(crate) enum Told<'a> {
 impl<'a> Member<'a> {
     /// A number that is written as a JSON number.
     pub(crate) fn whole(name: &'a str, value: u32) -> Member<'a>
+        ensures { member_of result ≡ (name.now, whole_data value) }
+    {
+        Member::number(name, u64::from(value))
+    }
+
+    /// The same of 64 bits.
+    pub(crate) fn number(name: &'a str, value: u64) -> Member<'a>
         ensures { member_of result ≡ (name.now, whole_data value) }
     {
         let value = Told::Whole(value);
@@ -102,7 +109,7 @@ pub fn write_member(writer: &mut Writer, member: &Member<'_>) -> Result<(), Allo
 {
     writer.key(member.name)?;
     match member.value {
-        Told::Whole(value) => writer.u64(u64::from(value)),
+        Told::Whole(value) => writer.u64(value),
         Told::U64(value) => writer.quoted_u64(value),
         Told::U128(value) => write_u128(writer, value),
         Told::Text(text) => writer.string(text),

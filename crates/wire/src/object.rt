@@ -3,7 +3,7 @@ ghost use Rattle.std.specs.Result.{result_ok};
 ghost use Rattle.serde_json.specs.Data.{Data};
 ghost use Rattle.serde_json.specs.View.{view};
 ghost use Rattle.wire.specs.Fields.{KnownFields, has_only, is_among, known_names, object_of};
-ghost use Rattle.wire.specs.Misfits.{IsBadNumber, IsMisfit, an_object};
+ghost use Rattle.wire.specs.Misfits.{IsBadNumber, IsMisfit, an_object, no_known_object, told_by};
 
 use crate::Wanted;
 use crate::misfit::Misfit;
@@ -39,7 +39,8 @@ pub(crate) fn read_object<O: Object>(value: &Value) -> Result<O, Misfit<'_>>
 // Why a value is no object of known fields, if it is none: the first field that nobody knows.
 fn stranger<O: Object>(value: &Value) -> Option<Misfit<'_>>
     ensures none { is_none result ≡ has_only (known_names O.fields) (view value.now) }
-    ensures some { IfSome result (IsMisfit (an_object O.fields) (view value.now)) }
+    ensures some { IfSome result (λ misfit.
+        no_known_object (known_names O.fields) (view value.now) ≡ told_by misfit) }
 {
     let Some(members) = value.as_object() else {
         return Some(Misfit::of_value(Wanted::Object));

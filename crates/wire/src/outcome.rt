@@ -1,4 +1,4 @@
-use crate::Items;
+use crate::{BodyFault, Items};
 use ledger_http::Refusal;
 use records::{
     AccountResult, AccountWithBalances, BalanceAt, EventResult, Hold, Transfer, TransferResult,
@@ -16,6 +16,8 @@ pub enum Entries {
 #[derive(Debug, Drop)]
 pub enum Outcome {
     Refused(Refusal),
+    /// The body is refused, and the reply says where.
+    Detailed(Refusal, BodyFault),
     /// The clock after a batch of accounts, and a result for each event.
     AccountResults {
         clock: u64,

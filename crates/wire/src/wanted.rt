@@ -1,6 +1,8 @@
-ghost use Rattle.std.specs.Prelude.{◌≡◌};
+ghost use Rattle.std.specs.Prelude.{◌≡◌, IfOk};
+ghost use Rattle.std.specs.String.{string_bytes};
 
 use ledger_http::Refusal;
+use std::alloc::{AllocError, Global};
 
 /// What a body that is refused has not.
 #[derive(Clone, Copy, Debug, PartialEq, Eq)]
@@ -27,6 +29,7 @@ pub enum Wanted {
 
 impl Wanted {
     ghost use Rattle.wire.specs.Misfits.{refusal_of};
+    ghost use Rattle.wire.specs.Wants.{want_text};
 
     /// The refusal of a body that has it not.
     pub fn refusal(self) -> Refusal
@@ -37,5 +40,25 @@ impl Wanted {
             Wanted::Few => Refusal::TooManyEvents,
             _ => Refusal::BadField,
         }
+    }
+
+    /// What it is, in words.
+    pub fn text(self, alloc: Global) -> Result<String, AllocError>
+        ensures { IfOk result (λ text. string_bytes text ≡ want_text self) }
+    {
+        let text = match self {
+            Wanted::Json => "JSON",
+            Wanted::List => "a list",
+            Wanted::Few => "at most 1,000 events or ids",
+            Wanted::Object => "an object",
+            Wanted::KnownName => "known fields only",
+            Wanted::Digits128 => "a string of decimal digits, with no zero in front, below 2^128",
+            Wanted::Digits64 => "a string of decimal digits, with no zero in front, below 2^64",
+            Wanted::Limit => "a whole number from 1 to 1,000",
+            Wanted::WholeBelow(bound) => {
+                return format!(in alloc; "a whole number below {bound}");
+            }
+        };
+        String::from_str(alloc, text)
     }
 }

@@ -4,6 +4,7 @@ ghost use Rattle.wire.specs.Reply.{page_data};
 ghost use Rattle.wire.specs.Told.{json_text, outcome_text};
 
 use crate::batch_text::{batch_text_accounts, batch_text_transfers};
+use crate::detailed::detailed_reply;
 use crate::listed::list_text;
 use crate::members::Member;
 use crate::page_text::page_text;
@@ -15,7 +16,8 @@ use std::alloc::{AllocError, Global};
 /// Memory ran out.
 pub type NoMemory = AllocError;
 
-/// The reply that shows an outcome. A refusal's is constant and takes no memory.
+/// The reply that shows an outcome. A refusal's that does not say where is constant and takes no
+/// memory.
 pub fn reply_bytes(alloc: Global, outcome: &Outcome) -> Result<Reply, NoMemory>
     ensures ok { IfOk result (λ reply. reply_text reply ≡ outcome_text outcome.now) }
     ensures refused { (refusal : Refusal) → outcome.now ≡ Outcome.Refused refusal
@@ -23,6 +25,7 @@ pub fn reply_bytes(alloc: Global, outcome: &Outcome) -> Result<Reply, NoMemory>
 {
     match outcome {
         Outcome::Refused(refusal) => Ok(Reply::Fixed(*refusal)),
+        Outcome::Detailed(refusal, fault) => detailed_reply(alloc, *refusal, fault),
         Outcome::AccountResults { clock, results } => {
             let body = batch_text_accounts(alloc, *clock, results.as_slice())?;
             Reply::of_body(alloc, ContentType::Json, &body)

@@ -230,6 +230,15 @@ func failure(err error) object {
 	case errors.As(err, &failed):
 		refused, _ = failed.Kind.(cegarront.Refusal)
 		told["kind"], told["name"], told["status"] = "refused", refused, failed.Status
+		if detail := failed.Detail; detail != nil {
+			told["want"] = detail.Want
+			if detail.Place >= 0 {
+				told["place"] = detail.Place
+			}
+			if detail.Field != "" {
+				told["field"] = detail.Field
+			}
+		}
 	}
 	return told
 }

@@ -2,6 +2,7 @@
 //! proved; here stand bodies and replies as they are sent.
 
 mod deep;
+mod detail;
 mod pages;
 mod reading;
 mod writing;

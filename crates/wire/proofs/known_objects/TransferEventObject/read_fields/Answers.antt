@@ -1,0 +1,168 @@
+use Rattle.std.proofs.Common.{[], ◌∷◌, ◌^◌, codes, Err, sym, ap, ◌∙◌}
+use Rattle.std.specs.Prelude.{is_none}
+use Rattle.std.proofs.lemmas.Result.{err_from_is_err_and}
+use Rattle.serde_json.specs.View.{view}
+use Rattle.wire.specs.declared.wanted.Wanted.TheVariants.{Digits128, Digits64, WholeBelow}
+use Rattle.wire.specs.Fields.{KnownFields}
+use Rattle.wire.specs.KnownObjects.{tag_fields}
+use Rattle.wire.proofs.Misfits.{after_good, after_one, at_bad, in_first}
+use Rattle.wire.proofs.known_objects.TransferEventObject.read_fields.Goals as goal
+
+-- the fields behind the tags, from each of them on
+abbrev from_timestamp : KnownFields
+from_timestamp = (codes "timestamp", Digits64) ∷ []
+
+abbrev from_flags : KnownFields
+from_flags = (codes "flags", WholeBelow (2 ^ 16)) ∷ from_timestamp
+
+abbrev from_timeout : KnownFields
+from_timeout = (codes "timeout", WholeBelow (2 ^ 32)) ∷ from_flags
+
+abbrev from_pending_id : KnownFields
+from_pending_id = (codes "pending_id", Digits128) ∷ from_timeout
+
+abbrev from_amount : KnownFields
+from_amount = (codes "amount", Digits128) ∷ from_pending_id
+
+abbrev from_credit_account_id : KnownFields
+from_credit_account_id = (codes "credit_account_id", Digits128) ∷ from_amount
+
+abbrev from_debit_account_id : KnownFields
+from_debit_account_id = (codes "debit_account_id", Digits128) ∷ from_credit_account_id
+
+abbrev from_id : KnownFields
+from_id = (codes "id", Digits128) ∷ from_debit_account_id
+
+pub returns-in_err-tags-clause-misfit : goal.returns-in_err-tags-clause-misfit
+returns-in_err-tags-clause-misfit c =
+    let p = err_from_is_err_and c.from_residual.result c.from_residual.ensures.1 in
+    rw (p.1 ∙ ap Err p.2)
+    (in_first tag_fields from_id (view c.args.object.now) _ c.in_err-tags.ensures.misfit)
+
+pub returns-in_err-u128_field-clause-misfit : goal.returns-in_err-u128_field-clause-misfit
+returns-in_err-u128_field-clause-misfit c =
+    let d = view c.args.object.now in
+    let p = err_from_is_err_and c.from_residual-in_err-u128_field.result c.from_residual-in_err-u128_field.ensures.1 in
+    rw (p.1 ∙ ap Err p.2)
+    (after_good tag_fields from_id d _ c.in_ok-tags.ensures.misfit
+    (at_bad (codes "id", Digits128) from_debit_account_id d _
+    c.in_err-u128_field.ensures.misfit))
+
+pub returns-in_err-u128_field-2-clause-misfit : goal.returns-in_err-u128_field-2-clause-misfit
+returns-in_err-u128_field-2-clause-misfit c =
+    let d = view c.args.object.now in
+    let p = err_from_is_err_and c.from_residual-in_err-u128_field-2.result c.from_residual-in_err-u128_field-2.ensures.1 in
+    rw (p.1 ∙ ap Err p.2)
+    (after_good tag_fields from_id d _ c.in_ok-tags.ensures.misfit
+    (after_one (codes "id", Digits128) from_debit_account_id d _
+    (ap is_none (sym c.in_ok-u128_field.ensures.value))
+    (at_bad (codes "debit_account_id", Digits128) from_credit_account_id d _
+    c.in_err-u128_field-2.ensures.misfit)))
+
+pub returns-in_err-u128_field-3-clause-misfit : goal.returns-in_err-u128_field-3-clause-misfit
+returns-in_err-u128_field-3-clause-misfit c =
+    let d = view c.args.object.now in
+    let p = err_from_is_err_and c.from_residual-in_err-u128_field-3.result c.from_residual-in_err-u128_field-3.ensures.1 in
+    rw (p.1 ∙ ap Err p.2)
+    (after_good tag_fields from_id d _ c.in_ok-tags.ensures.misfit
+    (after_one (codes "id", Digits128) from_debit_account_id d _
+    (ap is_none (sym c.in_ok-u128_field.ensures.value))
+    (after_one (codes "debit_account_id", Digits128) from_credit_account_id d _
+    (ap is_none (sym c.in_ok-u128_field-2.ensures.value))
+    (at_bad (codes "credit_account_id", Digits128) from_amount d _
+    c.in_err-u128_field-3.ensures.misfit))))
+
+pub returns-in_err-u128_field-4-clause-misfit : goal.returns-in_err-u128_field-4-clause-misfit
+returns-in_err-u128_field-4-clause-misfit c =
+    let d = view c.args.object.now in
+    let p = err_from_is_err_and c.from_residual-in_err-u128_field-4.result c.from_residual-in_err-u128_field-4.ensures.1 in
+    rw (p.1 ∙ ap Err p.2)
+    (after_good tag_fields from_id d _ c.in_ok-tags.ensures.misfit
+    (after_one (codes "id", Digits128) from_debit_account_id d _
+    (ap is_none (sym c.in_ok-u128_field.ensures.value))
+    (after_one (codes "debit_account_id", Digits128) from_credit_account_id d _
+    (ap is_none (sym c.in_ok-u128_field-2.ensures.value))
+    (after_one (codes "credit_account_id", Digits128) from_amount d _
+    (ap is_none (sym c.in_ok-u128_field-3.ensures.value))
+    (at_bad (codes "amount", Digits128) from_pending_id d _
+    c.in_err-u128_field-4.ensures.misfit)))))
+
+pub returns-in_err-u128_field-5-clause-misfit : goal.returns-in_err-u128_field-5-clause-misfit
+returns-in_err-u128_field-5-clause-misfit c =
+    let d = view c.args.object.now in
+    let p = err_from_is_err_and c.from_residual-in_err-u128_field-5.result c.from_residual-in_err-u128_field-5.ensures.1 in
+    rw (p.1 ∙ ap Err p.2)
+    (after_good tag_fields from_id d _ c.in_ok-tags.ensures.misfit
+    (after_one (codes "id", Digits128) from_debit_account_id d _
+    (ap is_none (sym c.in_ok-u128_field.ensures.value))
+    (after_one (codes "debit_account_id", Digits128) from_credit_account_id d _
+    (ap is_none (sym c.in_ok-u128_field-2.ensures.value))
+    (after_one (codes "credit_account_id", Digits128) from_amount d _
+    (ap is_none (sym c.in_ok-u128_field-3.ensures.value))
+    (after_one (codes "amount", Digits128) from_pending_id d _
+    (ap is_none (sym c.in_ok-u128_field-4.ensures.value))
+    (at_bad (codes "pending_id", Digits128) from_timeout d _
+    c.in_err-u128_field-5.ensures.misfit))))))
+
+pub returns-in_err-u32_field-clause-misfit : goal.returns-in_err-u32_field-clause-misfit
+returns-in_err-u32_field-clause-misfit c =
+    let d = view c.args.object.now in
+    let p = err_from_is_err_and c.from_residual-in_err-u32_field.result c.from_residual-in_err-u32_field.ensures.1 in
+    rw (p.1 ∙ ap Err p.2)
+    (after_good tag_fields from_id d _ c.in_ok-tags.ensures.misfit
+    (after_one (codes "id", Digits128) from_debit_account_id d _
+    (ap is_none (sym c.in_ok-u128_field.ensures.value))
+    (after_one (codes "debit_account_id", Digits128) from_credit_account_id d _
+    (ap is_none (sym c.in_ok-u128_field-2.ensures.value))
+    (after_one (codes "credit_account_id", Digits128) from_amount d _
+    (ap is_none (sym c.in_ok-u128_field-3.ensures.value))
+    (after_one (codes "amount", Digits128) from_pending_id d _
+    (ap is_none (sym c.in_ok-u128_field-4.ensures.value))
+    (after_one (codes "pending_id", Digits128) from_timeout d _
+    (ap is_none (sym c.in_ok-u128_field-5.ensures.value))
+    (at_bad (codes "timeout", WholeBelow (2 ^ 32)) from_flags d _
+    c.in_err-u32_field.ensures.misfit)))))))
+
+pub returns-in_err-u16_field-clause-misfit : goal.returns-in_err-u16_field-clause-misfit
+returns-in_err-u16_field-clause-misfit c =
+    let d = view c.args.object.now in
+    let p = err_from_is_err_and c.from_residual-in_err-u16_field.result c.from_residual-in_err-u16_field.ensures.1 in
+    rw (p.1 ∙ ap Err p.2)
+    (after_good tag_fields from_id d _ c.in_ok-tags.ensures.misfit
+    (after_one (codes "id", Digits128) from_debit_account_id d _
+    (ap is_none (sym c.in_ok-u128_field.ensures.value))
+    (after_one (codes "debit_account_id", Digits128) from_credit_account_id d _
+    (ap is_none (sym c.in_ok-u128_field-2.ensures.value))
+    (after_one (codes "credit_account_id", Digits128) from_amount d _
+    (ap is_none (sym c.in_ok-u128_field-3.ensures.value))
+    (after_one (codes "amount", Digits128) from_pending_id d _
+    (ap is_none (sym c.in_ok-u128_field-4.ensures.value))
+    (after_one (codes "pending_id", Digits128) from_timeout d _
+    (ap is_none (sym c.in_ok-u128_field-5.ensures.value))
+    (after_one (codes "timeout", WholeBelow (2 ^ 32)) from_flags d _
+    (ap is_none (sym c.in_ok-u32_field.ensures.value))
+    (at_bad (codes "flags", WholeBelow (2 ^ 16)) from_timestamp d _
+    c.in_err-u16_field.ensures.misfit))))))))
+
+pub returns-in_err-u64_field-clause-misfit : goal.returns-in_err-u64_field-clause-misfit
+returns-in_err-u64_field-clause-misfit c =
+    let d = view c.args.object.now in
+    let p = err_from_is_err_and c.from_residual-in_err-u64_field.result c.from_residual-in_err-u64_field.ensures.1 in
+    rw (p.1 ∙ ap Err p.2)
+    (after_good tag_fields from_id d _ c.in_ok-tags.ensures.misfit
+    (after_one (codes "id", Digits128) from_debit_account_id d _
+    (ap is_none (sym c.in_ok-u128_field.ensures.value))
+    (after_one (codes "debit_account_id", Digits128) from_credit_account_id d _
+    (ap is_none (sym c.in_ok-u128_field-2.ensures.value))
+    (after_one (codes "credit_account_id", Digits128) from_amount d _
+    (ap is_none (sym c.in_ok-u128_field-3.ensures.value))
+    (after_one (codes "amount", Digits128) from_pending_id d _
+    (ap is_none (sym c.in_ok-u128_field-4.ensures.value))
+    (after_one (codes "pending_id", Digits128) from_timeout d _
+    (ap is_none (sym c.in_ok-u128_field-5.ensures.value))
+    (after_one (codes "timeout", WholeBelow (2 ^ 32)) from_flags d _
+    (ap is_none (sym c.in_ok-u32_field.ensures.value))
+    (after_one (codes "flags", WholeBelow (2 ^ 16)) from_timestamp d _
+    (ap is_none (sym c.in_ok-u16_field.ensures.value))
+    (at_bad (codes "timestamp", Digits64) [] d _
+    c.in_err-u64_field.ensures.misfit)))))))))
