@@ -1,5 +1,5 @@
 -- Messages of one connection, one after the other, and their replies.
-use Rattle.std.specs.Prelude.{◌≡◌, ◌⊎◌, ℕ, ◌≤◌, Bool, true, false, List, [], ◌∷◌, ◌++◌, length, drop}
+use Rattle.std.specs.Prelude.{◌≡◌, ◌⊎◌, ℕ, ◌≤◌, Bool, true, false, not, List, [], ◌∷◌, ◌++◌, length, drop}
 use Rattle.std.specs.Prelude.{Option, Some, None, Result, Ok, Err}
 use Rattle.std.specs.Io.KnownBytes.{Appends, Keeps}
 use Rattle.records.specs.Streams.{AppendsFront}
@@ -9,7 +9,7 @@ use Rattle.ledger_http.specs.declared.reply.Reply.{Reply}
 use Rattle.ledger_http.specs.declared.reply.Reply.TheVariants.{Fixed}
 use Rattle.ledger_http.specs.RefusalTable.{is_of_reading}
 use Rattle.ledger_http.specs.ReplyText.{reply_text}
-use Rattle.ledger_http.specs.Message.{Begins, IsRefused, IsAnnounced, head_size, refused_size}
+use Rattle.ledger_http.specs.Message.{Begins, IsRefused, IsAnnounced, IsClosing, head_size, refused_size}
 use Rattle.ledger_http.specs.First.{IsBrokenOff}
 use Rattle.service.specs.declared.exchanging.Exchanged.{Exchanged}
 use Rattle.service.specs.declared.serving.ServeFault.{ServeFault}
@@ -31,6 +31,11 @@ abbrev pub connection : {S C : Type 0} → S → Option (List ℕ) → C → Boo
 connection ledgers unread moments goes_on =
     record { ledgers = ledgers; unread = unread; moments = moments; goes_on = goes_on }
 
+-- a connection goes on after a message, unless its head ends it
+abbrev pub GoesOnAfter : List ℕ → Bool → Type 0
+GoesOnAfter message goes_on =
+    (closes : Bool) × IsClosing message closes × (goes_on ≡ not closes)
+
 -- the first message of what is unread is answered, at the moment that is then given; where the
 -- ledgers are no longer live, no more is known than what is refused before a tenant is looked up
 pub record IsFirstAnswered {S C : Type 0} (t : LedgersMeaning S) (gives : C → ℕ → C → Type 0)
@@ -47,7 +52,7 @@ pub record IsFirstAnswered {S C : Type 0} (t : LedgersMeaning S) (gives : C → 
       Finds t (response.IsQuestionAnswered message reply) (IsLeftBy message moment)
       old.ledgers new.ledgers
   pub follows : t.follows old.ledgers new.ledgers
-  pub goes_on : new.goes_on ≡ true
+  pub goes_on : GoesOnAfter message new.goes_on
 
 -- of what is unread at most so many bytes are taken
 abbrev pub TakesAtMost : ℕ → List ℕ → Option (List ℕ) → Type 0

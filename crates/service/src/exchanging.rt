@@ -8,7 +8,9 @@ ghost use Rattle.service.specs.Connections.{connection, Exchanges};
 use crate::moments::Moments;
 use crate::responding::respond;
 use chain::Ledgers;
-use ledger_http::{Message, ReadError, Refusal, Reply, WriteError, read_message, write_reply};
+use ledger_http::{
+    Message, ReadError, Refusal, Reply, WriteError, is_closing, read_message, write_reply,
+};
 use records::{Drain, Source};
 use std::alloc::Global;
 
@@ -60,7 +62,7 @@ pub(crate) fn exchange<L: Ledgers, R: Source, C: Moments>(
         Message::Whole(message) => {
             let moment = moments.moment();
             let reply = respond(alloc, ledgers, &message, moment);
-            let goes_on = true;
+            let goes_on = !is_closing(&message);
             Ok(Some(Exchanged { reply, goes_on }))
         }
         Message::End => Ok(None),

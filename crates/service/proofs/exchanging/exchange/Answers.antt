@@ -1,5 +1,6 @@
 use Rattle.std.proofs.Common.{refl, inl, inr, subst, List, ℕ}
 use Rattle.chain.specs.Ledgers.{Finds}
+use Rattle.ledger_http.specs.Message.{IsClosing}
 use Rattle.service.specs.Responds.{Responds, RefusesEarly, IsQuestionAnswered, IsLeftBy}
 use Rattle.service.proofs.ConnectionRuns.{cut_off_behind, stays_ended}
 use Rattle.service.proofs.exchanging.exchange.Goals as goal
@@ -29,7 +30,12 @@ returns-in-Whole-clause-exchanges g c = record {
         (IsLeftBy bytes c.moment-moment.result) c.args.ledgers.now c.respond-reply.new.ledgers)
         c.deref.ensures.value c.respond-reply.ensures.finds;
     follows = c.respond-reply.ensures.follows;
-    goes_on = refl;
+    goes_on = (
+      c.is_closing-goes_on.result,
+      subst (λ (bytes : List ℕ). IsClosing bytes c.is_closing-goes_on.result)
+          c.deref-in-Whole.ensures.value c.is_closing-goes_on.ensures,
+      refl,
+    );
   });
 }
 
