@@ -1,8 +1,10 @@
 """A file that is damaged while it is served, and put back."""
 
 import os
+import signal
 import sqlite3
 
+from control import DISK, Control
 from copies import copy, files
 from counted import counts, refused_told
 from drawn import moves
@@ -15,19 +17,28 @@ def broken(trial):
     """Other bytes written over the file, and its disk failing: the service tells that the file is
     damaged, and goes on once it is put back."""
     times = 20 if trial.is_long else 3
-    house = House(trial.fresh())
-    house.begin()
+    house, control = House(trial.fresh()), Control(trial.folder)
+    house.begin(control.env)
     kept, scratch = (os.path.join(trial.folder, name) for name in ("kept.db", "scratch.db"))
     for turn in range(times):
         for place, events in (house.draw() for _ in range(4)):
             want(house.take_turn(place).batch(events), "unavailable, with all at hand")
         copy(house.db, kept)
-        copy(house.db, scratch)
+        join(kept)
+        copy(kept, scratch)
         damage(house.program, scratch)
-        break_once(house, turn, kept, scratch)
+        break_once(house, control, turn, kept, scratch)
     house.stop()
     check(house.program, house.db)
     return f"{times} times damaged while it was served: told, and served again once it was put back"
+
+
+def join(db):
+    """Makes one file of a ledger's, so that it may be put in the place of another whenever that is
+    read."""
+    connection = sqlite3.connect(db)
+    connection.execute("PRAGMA wal_checkpoint(TRUNCATE)").fetchall()
+    connection.close()
 
 
 def damage(program, db):
@@ -39,15 +50,18 @@ def damage(program, db):
     want(told[0] == 4 and told[1].startswith("damaged "), f"a file with a balance removed: {told}")
 
 
-def break_once(house, turn, kept, damaged):
-    """A batch that cannot be written, so that the file is opened again, damaged and then whole. It
-    is damaged before the batch is refused, since the file is opened again at once."""
+def break_once(house, control, turn, kept, damaged):
+    """A call of the disk that fails, so that the file is opened again, damaged and then whole. The
+    process stands still while the file is damaged. Then the first call fails, be it of the batch or
+    of a hold that is due; the next ones may be those of the opening."""
     batch = moves(10**9 + turn)
     desk, begun, before = house.take_turn(0), len(house.service.told()), counts(house)
-    house.service.limit_files(0)
+    house.service.stand_still()
     put(damaged, house.db)
-    want(not desk.batch(batch), "answered, with nothing written")
-    house.service.limit_files(2**62)
+    control.refuse(DISK, 0)
+    house.service.served.send_signal(signal.SIGCONT)
+    want(not desk.batch(batch), "answered, with a call that failed")
+    want(control.end(DISK) == 1, "no call failed")
     look_at_routes(house.take_turn(1).connection, house.desks[1].key)
     lines = house.service.told()[begun:]
     want(lines == ["ledgerd: damaged"], f"standard error tells {lines}")

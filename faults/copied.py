@@ -24,7 +24,7 @@ EXISTS = (1, "", "ledgerd: exists\n")
 OUTPUT = (3, "", "ledgerd: output\n")
 # What a command tells that was killed.
 KILLED = (-signal.SIGKILL, "", "")
-PARTS = {".part", "-wal.part"}
+PARTS = {".part", ".part-wal"}
 # Clients say nothing while a copy is looked at.
 IDLE = ("--idle", "3600")
 # So many bytes are copied at a time.
@@ -180,13 +180,12 @@ def copy_under_load(house, clients, copy):
 
 
 def look_at_files(told, copy):
-    """Both files are there, for the owner alone, and nothing else is. Their bytes."""
-    want(left(copy) == {"", "-wal"}, f"beside a copy there are {left(copy)}, and {told} is told")
-    stats = [os.stat(path) for path in (copy, f"{copy}-wal")]
-    size = sum(each.st_size for each in stats)
-    want(told == (0, f"copied {size}\n", ""), f"copy of {size} bytes: {told}")
-    want([each.st_mode & 0o777 for each in stats] == [0o600, 0o600], "the modes of a copy")
-    return size
+    """One file is there, for the owner alone, and nothing else is. Its bytes."""
+    want(left(copy) == {""}, f"beside a copy there are {left(copy)}, and {told} is told")
+    found = os.stat(copy)
+    want(told == (0, f"copied {found.st_size}\n", ""), f"copy of {found.st_size} bytes: {told}")
+    want(found.st_mode & 0o777 == 0o600, "the mode of a copy")
+    return found.st_size
 
 
 def left(copy):
@@ -233,7 +232,7 @@ def put(path, text=b""):
 def refuse_copies(house, copy):
     """Where something has one of the names nothing is done. What a copy that was killed has left is
     taken away."""
-    for end in ("", "-wal", "-journal"):
+    for end in ("", "-wal", "-journal", "-sums"):
         for make in (put, os.mkdir, lambda path: os.symlink("nowhere", path)):
             make(copy + end)
             told = told_by(house, "copy", "--to", copy)
@@ -308,7 +307,7 @@ def judge_rest(house, told, copy):
     """What is there of a copy beside which the service, or the command, was killed. A whole one may
     be there and not be told."""
     there = left(copy)
-    if there != {"", "-wal"}:
+    if not {""} <= there <= {"", ".part-wal"}:
         want(told[0] and there <= PARTS, f"killed beside `copy`: {told}, and there are {there}")
         return "parts are there" if there else "nothing is there"
     # The command may have been killed while it told of it.

@@ -1,1 +1,2 @@
 mod Overwrites
+mod WholeLemmas

@@ -1,3 +1,4 @@
 pub mod CopyNames
 pub mod Faults
 pub mod Places
+pub mod Whole

@@ -3,6 +3,7 @@
 use crate::fault::CopyFault;
 use crate::files::Files;
 use crate::names::Names;
+use crate::whole::write_back_at;
 
 /// How many pieces of the database are copied in one turn of the first pass: 4 megabytes.
 const COPIED: u32 = 32;
@@ -19,20 +20,18 @@ enum Stage {
     Second(u64),
     /// All of the copy is made what both files are.
     Last,
-    /// The copy, whose files have so many bytes, is synced: that of the database.
-    SyncDb(u64),
-    /// And that of the log.
-    SyncLog(u64),
-    /// The copy gets its names.
+    /// The copy's log is written back into its database.
+    Join,
+    /// The copy, which has so many bytes, gets its name.
     Name(u64),
 }
 
-/// A copy of a ledger's two files, the database and its log. Until it is whole it stands under
-/// names that end in `.part`.
+/// A copy of a ledger's two files, the database and its log, in one file. Until it is whole it
+/// stands under a name that ends in `.part`, with a log beside it.
 ///
 /// Two passes copy the database piece by piece, whatever is written meanwhile, so that they may mix
 /// moments. Then one turn makes all of it what both files are at that moment. What is written to
-/// them behind that turn is no matter: the copy is synced and gets its names.
+/// them after that turn is no matter: the copy's own log is written back, and it gets its name.
 #[derive(Drop)]
 pub struct Copying {
     files: Files,
@@ -88,15 +87,11 @@ impl Copying {
         self.stage = match self.stage {
             Stage::First(at) => self.copy_on(at)?,
             Stage::Second(at) => self.match_on(at)?,
-            Stage::Last => Stage::SyncDb(self.settle()?),
-            Stage::SyncDb(bytes) => {
-                self.files.sync_db()?;
-                Stage::SyncLog(bytes)
+            Stage::Last => {
+                self.settle()?;
+                Stage::Join
             }
-            Stage::SyncLog(bytes) => {
-                self.files.sync_log()?;
-                Stage::Name(bytes)
-            }
+            Stage::Join => Stage::Name(self.join(rt)?),
             Stage::Name(bytes) => {
                 self.names.put_in_place(rt)?;
                 return Ok(Some(bytes));
@@ -118,7 +113,7 @@ impl Copying {
             at = at.saturating_add(count);
             next = Stage::First(at);
         }
-        self.files.sync_db()?;
+        self.files.sync()?;
         Ok(next)
     }
 
@@ -135,22 +130,28 @@ impl Copying {
             at = at.saturating_add(count);
             next = Stage::Second(at);
         }
-        self.files.sync_db()?;
+        self.files.sync()?;
         Ok(next)
     }
 
-    // Makes the copy what both files are now. Says how many bytes they have.
-    fn settle(&mut self) -> Result<u64, CopyFault> {
-        let db = self.files.match_db()?;
-        let log = self.files.match_log()?;
-        Ok(db.saturating_add(log))
+    // Makes the copy what both files are now.
+    fn settle(&mut self) -> Result<(), CopyFault> {
+        self.files.match_db()?;
+        self.files.match_log()
+    }
+
+    // Writes the copy's log back, so that it is one file, which is synced. Says how many bytes it
+    // has.
+    fn join(&mut self, rt: &HostRuntime) -> Result<u64, CopyFault> {
+        write_back_at(rt, self.names.part())?;
+        self.files.sync()?;
+        self.files.len()
     }
 
     // Makes all of the copy at once.
     fn make(&mut self, rt: &HostRuntime) -> Result<u64, CopyFault> {
-        let bytes = self.settle()?;
-        self.files.sync_db()?;
-        self.files.sync_log()?;
+        self.settle()?;
+        let bytes = self.join(rt)?;
         self.names.put_in_place(rt)?;
         Ok(bytes)
     }

@@ -55,8 +55,8 @@ impl Files {
         Ok(Files {
             db: File::open(rt, from)?,
             log: File::open(rt, log.as_str())?,
-            db_copy: make(rt, names.db_part())?,
-            log_copy: make(rt, names.log_part())?,
+            db_copy: make(rt, names.part())?,
+            log_copy: make(rt, names.log())?,
             room: zeros(rt)?,
             other: zeros(rt)?,
         })
@@ -75,25 +75,27 @@ impl Files {
         Ok(count as u64)
     }
 
-    /// Makes the copy of the database what that is. Says how many bytes it has.
-    pub(crate) fn match_db(&mut self) -> Result<u64, CopyFault> {
+    /// Makes the copy of the database what that is.
+    pub(crate) fn match_db(&mut self) -> Result<(), CopyFault> {
         let (room, other) = (&mut self.room, &mut self.other);
-        match_all(&self.db, &mut self.db_copy, room, other)
+        match_all(&self.db, &mut self.db_copy, room, other)?;
+        Ok(())
     }
 
     /// The same of the log.
-    pub(crate) fn match_log(&mut self) -> Result<u64, CopyFault> {
+    pub(crate) fn match_log(&mut self) -> Result<(), CopyFault> {
         let (room, other) = (&mut self.room, &mut self.other);
-        match_all(&self.log, &mut self.log_copy, room, other)
+        match_all(&self.log, &mut self.log_copy, room, other)?;
+        Ok(())
     }
 
     /// What was written of the database's copy stays where the power is lost.
-    pub(crate) fn sync_db(&self) -> Result<(), CopyFault> {
+    pub(crate) fn sync(&self) -> Result<(), CopyFault> {
         Ok(self.db_copy.sync_all()?)
     }
 
-    /// The same of the log's.
-    pub(crate) fn sync_log(&self) -> Result<(), CopyFault> {
-        Ok(self.log_copy.sync_all()?)
+    /// How many bytes the database's copy has.
+    pub(crate) fn len(&self) -> Result<u64, CopyFault> {
+        Ok(self.db_copy.metadata()?.len())
     }
 }

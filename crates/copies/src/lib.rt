@@ -1,4 +1,5 @@
-//! Copies of a ledger's two files, which may be written to while the copy is made.
+//! Copies of a ledger, each one file, and files whose log is written back. A ledger may be written
+//! to while its copy is made.
 #![tactic(auto)]
 
 mod copying;
@@ -7,6 +8,8 @@ mod files;
 mod names;
 mod pieces;
 mod places;
+mod whole;
 
 pub use copying::{Copying, Progress, copy_whole};
 pub use fault::CopyFault;
+pub use whole::write_back;

@@ -6,13 +6,12 @@ use crate::fault::CopyFault;
 use std::fs;
 use std::io::ErrorKind;
 
-/// The names of a copy's two files, and of both before they are whole, all in one folder.
+/// The name of a copy, and its name before it is whole, with that of its log; all in one folder.
 #[derive(Drop)]
 pub(crate) struct Names {
     db: String,
+    part: String,
     log: String,
-    db_part: String,
-    log_part: String,
     folder: String,
 }
 
@@ -47,29 +46,15 @@ impl Names {
         let alloc = rt.alloc();
         Ok(Names {
             db: String::from_str(alloc, path)?,
-            log: format!(in rt.alloc(); "{path}-wal")?,
-            db_part: format!(in rt.alloc(); "{path}.part")?,
-            log_part: format!(in rt.alloc(); "{path}-wal.part")?,
+            part: format!(in rt.alloc(); "{path}.part")?,
+            log: format!(in rt.alloc(); "{path}.part-wal")?,
             folder: String::from_str(rt.alloc(), folder_of(path))?,
         })
     }
 
-    // Takes away the log of a copy that was cut short between its two names: its database has none.
-    fn clear_log(&self, rt: &HostRuntime) -> Result<(), CopyFault> {
-        let is_cut = is_taken(rt, self.db_part.as_str())?
-            && !is_taken(rt, self.log_part.as_str())?
-            && !is_taken(rt, self.db.as_str())?;
-        if is_cut {
-            remove(rt, self.log.as_str());
-        }
-        Ok(())
-    }
-
-    /// Takes away what is left of a copy that was cut short, and looks whether a name is free of
-    /// those that the copy is to have, and that of a journal, which another program would take for
-    /// its own.
+    /// Takes away what is left of a copy that was cut short, and looks whether the names are free:
+    /// the copy's, and those of a log, a journal and FILE-sums, which would be taken for its own.
     pub(crate) fn are_free(&self, rt: &HostRuntime) -> Result<bool, CopyFault> {
-        self.clear_log(rt)?;
         self.clear(rt);
         Ok(!self.are_taken(rt)?)
     }
@@ -77,43 +62,46 @@ impl Names {
     // Whether one of these names is taken.
     fn are_taken(&self, rt: &HostRuntime) -> Result<bool, CopyFault> {
         let db = self.db.as_str();
-        let journal = format!(in rt.alloc(); "{db}-journal")?;
-        Ok(is_taken(rt, db)? || is_taken(rt, self.log.as_str())? || is_taken(rt, journal.as_str())?)
+        for end in ["", "-wal", "-journal", "-sums"] {
+            let path = format!(in rt.alloc(); "{db}{end}")?;
+            if is_taken(rt, path.as_str())? {
+                return Ok(true);
+            }
+        }
+        Ok(false)
     }
 
-    pub(crate) fn db_part(&self) -> &str
-        ensures { result.now ≡ string_bytes self.now.db_part }
+    /// The name of the copy before it is whole.
+    pub(crate) fn part(&self) -> &str
+        ensures { result.now ≡ string_bytes self.now.part }
     {
-        self.db_part.as_str()
+        self.part.as_str()
     }
 
-    pub(crate) fn log_part(&self) -> &str
-        ensures { result.now ≡ string_bytes self.now.log_part }
+    /// The name of its log.
+    pub(crate) fn log(&self) -> &str
+        ensures { result.now ≡ string_bytes self.now.log }
     {
-        self.log_part.as_str()
+        self.log.as_str()
     }
 
-    /// What was left of a copy that was cut short is removed.
+    /// What is left of a copy that is not whole is removed.
     pub(crate) fn clear(&self, rt: &HostRuntime) {
-        remove(rt, self.db_part.as_str());
-        remove(rt, self.log_part.as_str());
+        remove(rt, self.part.as_str());
+        remove(rt, self.log.as_str());
     }
 
-    /// Gives both files their names, the log first: a database is never there without it.
+    /// Gives the copy its name. Its log, which has nothing, is removed.
     pub(crate) fn put_in_place(&self, rt: &HostRuntime) -> Result<(), CopyFault> {
         if self.are_taken(rt)? {
             return Err(CopyFault::Exists);
         }
-        fs::rename(rt, self.log_part.as_str(), self.log.as_str())?;
-        if let Err(error) = fs::rename(rt, self.db_part.as_str(), self.db.as_str()) {
-            remove(rt, self.log.as_str());
-            return Err(CopyFault::from(error));
-        }
+        fs::rename(rt, self.part.as_str(), self.db.as_str())?;
+        remove(rt, self.log.as_str());
         match fs::File::open(rt, self.folder.as_str()).and_then(|folder| folder.sync_all()) {
             Ok(()) => Ok(()),
             Err(error) => {
                 remove(rt, self.db.as_str());
-                remove(rt, self.log.as_str());
                 Err(CopyFault::from(error))
             }
         }

@@ -1,14 +1,16 @@
 //! The mark: the latest clock in any reply to a batch.
 //!
 //! A reply to a batch has the tenant's clock, and there is such a reply only once the batch is
-//! committed. The clock is appended to FILE-sums before the reply goes out. So a ledger whose clocks
-//! are all below the mark lacks a commit that was answered.
+//! committed. The clock is appended to FILE-sums before the reply goes out, or on a slow volume up to
+//! a tenth of a second later. So a ledger whose clocks are all below the mark lacks a commit that was
+//! answered.
 #![tactic(auto)]
 
 mod clock;
 mod latest;
 mod marking;
 mod marks;
+mod pace;
 #[cfg(test)]
 mod tests;
 

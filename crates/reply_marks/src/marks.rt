@@ -1,12 +1,15 @@
 //! The marks of a file that is served.
 
-use crate::mark_reply;
+use crate::pace::Pace;
+use crate::{clock_in, mark_reply};
 use file_sums::{Noted, Record};
 use kept_sums::{Access, KeptSums, make_beside, open_beside, read_beside, remove_beside};
+use std::alloc::Global;
 use std::cell::{Cell, RefCell};
 use std::fs::File;
 use std::hash::{BuildHasher, RandomState};
 use std::io::{self, ErrorKind};
+use std::time::{Clock, Duration};
 
 /// How much is appended before FILE-sums is made anew.
 const MOST_APPENDED: u64 = 1 << 20;
@@ -40,6 +43,37 @@ struct Beside {
     kept: KeptSums<File>,
     /// How long it gets before it is made anew.
     most: u64,
+    pace: Pace,
+    /// The latest clock of a reply that went out while nothing was appended.
+    late: u64,
+}
+
+impl Beside {
+    // Marks the clocks that were not marked while nothing was appended.
+    fn mark_late(&mut self, alloc: Global) -> io::Result<()> {
+        if self.late > self.kept.noted().mark {
+            self.kept.append(alloc, Record::Mark(self.late))?;
+        }
+        Ok(())
+    }
+
+    // Marks the clock of a reply, or keeps it for later.
+    fn mark(&mut self, rt: &HostRuntime, reply: &[u8]) -> io::Result<()> {
+        let began = now(rt);
+        if self.pace.rests(began) {
+            self.late = self.late.max(clock_in(reply).unwrap_or(0));
+            return Ok(());
+        }
+        let marked = mark_reply(&mut self.kept, rt.alloc(), reply);
+        self.pace.took(began, now(rt));
+        marked?;
+        self.mark_late(rt.alloc())
+    }
+}
+
+// The moment by the machine's clock.
+fn now(rt: &HostRuntime) -> Duration {
+    rt.monotonic().unwrap_or(Duration::ZERO)
 }
 
 /// FILE-sums of a file that is served, once that is open. Where it cannot be written, that is
@@ -94,19 +128,21 @@ impl<'a> Marks<'a> {
     pub fn end(&self) {
         if let Ok(mut beside) = self.beside.try_borrow_mut() {
             if let Some(beside) = &mut *beside {
+                let _ = beside.mark_late(self.rt.alloc());
                 let _ = beside.kept.sync();
             }
             *beside = None;
         }
     }
 
-    /// Marks the clock of a reply to a batch, which is still to go out.
+    /// Marks the clock of a reply to a batch, which is still to go out. On a slow volume that may be
+    /// put off, until the first reply after a tenth of a second or until `catch_up`.
     pub fn note(&self, reply: &[u8]) {
         let Ok(mut beside) = self.beside.try_borrow_mut() else {
             return;
         };
         if let Some(beside) = &mut *beside {
-            let noted = mark_reply(&mut beside.kept, self.rt.alloc(), reply);
+            let noted = beside.mark(self.rt, reply);
             self.report(beside.path.as_str(), noted);
             if beside.kept.len() > beside.most {
                 self.renew(beside);
@@ -114,11 +150,31 @@ impl<'a> Marks<'a> {
         }
     }
 
+    /// Marks what was put off, where it is time to: to be called every second or so.
+    pub fn catch_up(&self) {
+        let Ok(mut beside) = self.beside.try_borrow_mut() else {
+            return;
+        };
+        if let Some(beside) = &mut *beside
+            && beside.late > beside.kept.noted().mark
+            && !beside.pace.rests(now(self.rt))
+        {
+            let marked = beside.mark_late(self.rt.alloc());
+            self.report(beside.path.as_str(), marked);
+        }
+    }
+
     fn keep(&self, path: &str, kept: KeptSums<File>) -> io::Result<()> {
         let path = String::from_str(self.rt.alloc(), path)?;
         let most = kept.len().saturating_add(MOST_APPENDED);
         if let Ok(mut beside) = self.beside.try_borrow_mut() {
-            *beside = Some(Beside { path, kept, most });
+            *beside = Some(Beside {
+                path,
+                kept,
+                most,
+                pace: Pace::new(),
+                late: 0,
+            });
         }
         Ok(())
     }

@@ -1,7 +1,9 @@
+use crate::pace::Pace;
 use crate::{Marks, clock_in, forget_beside, mark_reply, noted_beside};
 use file_sums::{LogNoted, Noted, Record, Sums};
 use kept_sums::{Access, KeptSums, Place, make_beside, read_beside};
 use std::test::Fail;
+use std::time::Duration;
 use std::{fs, io};
 
 // The reply that docs/MESSAGES.md has.
@@ -79,4 +81,21 @@ fn a_mark_is_found_by_the_next_opening(rt: HostRuntime) -> Result<(), Fail> {
     assert_eq!(rt; noted_beside(&rt, PATH), Noted::new());
     fs::remove_dir_all(&rt, FOLDER)?;
     Ok(())
+}
+
+#[test]
+fn a_slow_volume_has_a_mark_ten_times_a_second(rt: HostRuntime) {
+    let at = Duration::from_micros;
+    let mut pace = Pace::new();
+    assert!(rt; !pace.rests(at(0)));
+    // One slow append may be the machine's doing.
+    pace.took(at(1_000), at(1_300));
+    assert!(rt; !pace.rests(at(1_301)));
+    pace.took(at(2_000), at(2_001));
+    pace.took(at(3_000), at(3_300));
+    assert!(rt; !pace.rests(at(3_301)));
+    pace.took(at(4_000), at(4_300));
+    assert!(rt; pace.rests(at(4_300)));
+    assert!(rt; pace.rests(at(104_299)));
+    assert!(rt; !pace.rests(at(104_300)));
 }

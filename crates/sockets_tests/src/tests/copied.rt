@@ -1,18 +1,13 @@
 //! Copies of files of this machine.
 
 use copies::{CopyFault, Copying, Progress, copy_whole};
+use sqlite::{Alter, Connection, Error, File, FileStore};
 use std::fs;
 use std::os::unix::fs::MetadataExt;
 use std::test::Fail;
 
-// What two files hold, one behind the other.
-fn both(rt: &HostRuntime, db: &str) -> Result<Vec<u8>, Fail> {
-    let log = format!(in rt.alloc(); "{db}-wal")?;
-    let mut all = fs::read(rt, db)?;
-    all.push(b'|')?;
-    all.extend_from_slice(fs::read(rt, log.as_str())?.as_slice())?;
-    Ok(all)
-}
+// What may have a name that begins with that of a copy.
+const ENDS: [&str; 6] = ["", "-wal", "-journal", "-sums", ".part", ".part-wal"];
 
 fn write_both(rt: &HostRuntime, db: &str, first: &[u8], second: &[u8]) -> Result<(), Fail> {
     let log = format!(in rt.alloc(); "{db}-wal")?;
@@ -22,7 +17,7 @@ fn write_both(rt: &HostRuntime, db: &str, first: &[u8], second: &[u8]) -> Result
 
 // Whatever has a name that begins with that of a copy is taken away.
 fn clear(rt: &HostRuntime, db: &str) -> Result<(), Fail> {
-    for end in ["", "-wal", "-journal", ".part", "-wal.part"] {
+    for end in ENDS {
         let path = format!(in rt.alloc(); "{db}{end}")?;
         let _ = fs::remove_file(rt, path.as_str());
     }
@@ -32,7 +27,7 @@ fn clear(rt: &HostRuntime, db: &str) -> Result<(), Fail> {
 // How many of these names there are.
 fn count(rt: &HostRuntime, db: &str) -> Result<usize, Fail> {
     let mut count = 0usize;
-    for end in ["", "-wal", "-journal", ".part", "-wal.part"] {
+    for end in ENDS {
         let path = format!(in rt.alloc(); "{db}{end}")?;
         if fs::exists(rt, path.as_str())? {
             count = count.saturating_add(1);
@@ -41,12 +36,22 @@ fn count(rt: &HostRuntime, db: &str) -> Result<usize, Fail> {
     Ok(count)
 }
 
-// So many bytes of one kind, and behind them so many of another.
-fn bytes(rt: &HostRuntime, size: usize, more: usize) -> Result<Vec<u8>, Fail> {
-    let mut all = Vec::new(rt.alloc());
-    all.resize(size, 1)?;
-    all.resize(size.saturating_add(more), 2)?;
-    Ok(all)
+// A new database with an empty table, whose rows stay in the log.
+fn made(rt: &HostRuntime, db: &str) -> Result<Connection<FileStore<File>>, Error> {
+    let mut conn = Connection::open(rt, db)?;
+    conn.execute("CREATE TABLE t (n INTEGER)", &[])?;
+    Ok(conn)
+}
+
+fn add_row<S: Alter>(conn: &mut Connection<S>) -> Result<(), Error> {
+    conn.execute("INSERT INTO t VALUES (1)", &[])?;
+    Ok(())
+}
+
+// How many rows a database has.
+fn rows(rt: &HostRuntime, db: &str) -> Result<i64, Error> {
+    let mut conn = Connection::open(rt, db)?;
+    conn.query_row("SELECT count(*) FROM t", &[])?.get(0)
 }
 
 fn begun(rt: &HostRuntime, from: &str, to: &str) -> Result<Copying, Fail> {
@@ -69,52 +74,43 @@ fn go_on(rt: &HostRuntime, from: Copying, turns: u32) -> Result<Copying, Fail> {
 }
 
 #[test]
-fn copies_both_files_for_their_owner(rt: HostRuntime) -> Result<(), Fail> {
+fn a_copy_is_one_file_for_its_owner(rt: HostRuntime) -> Result<(), Fail> {
     clear(&rt, "a.db")?;
     clear(&rt, "b.db")?;
-    write_both(&rt, "a.db", b"pages", b"log")?;
-    assert_eq!(rt; copy_whole(&rt, "a.db", "b.db"), Ok(8));
-    assert_eq!(rt; both(&rt, "b.db")?.as_slice(), b"pages|log".as_slice());
-    assert_eq!(rt; fs::metadata(&rt, "b.db")?.mode() & 0o777, 0o600);
-    assert_eq!(rt; fs::metadata(&rt, "b.db-wal")?.mode() & 0o777, 0o600);
-    assert_eq!(rt; count(&rt, "b.db")?, 2);
+    let mut conn = made(&rt, "a.db")?;
+    add_row(&mut conn)?;
+    let Ok(bytes) = copy_whole(&rt, "a.db", "b.db") else {
+        return Err(Fail::new(format_args!("no copy")));
+    };
+    drop(conn);
+    let found = fs::metadata(&rt, "b.db")?;
+    assert_eq!(rt; found.len(), bytes);
+    assert_eq!(rt; found.mode() & 0o777, 0o600);
+    assert_eq!(rt; count(&rt, "b.db")?, 1);
+    assert_eq!(rt; rows(&rt, "b.db")?, 1);
     clear(&rt, "a.db")?;
     clear(&rt, "b.db")
 }
 
-// The copy has what stands at the last look at the files: where pages have changed that it had,
-// where the file is longer or shorter. What is written behind that look is no matter.
+// What is written after the last look at the files is no matter.
 #[test]
 fn copies_what_stands_at_its_last_look(rt: HostRuntime) -> Result<(), Fail> {
     clear(&rt, "c.db")?;
     clear(&rt, "d.db")?;
-    write_both(&rt, "c.db", bytes(&rt, 5_000_000, 0)?.as_slice(), b"first")?;
-    // The first pass takes two turns, the second one.
-    let copying = go_on(&rt, begun(&rt, "c.db", "d.db")?, 2)?;
-    write_both(
-        &rt,
-        "c.db",
-        bytes(&rt, 4_999_999, 300_000)?.as_slice(),
-        b"second",
-    )?;
+    let mut conn = made(&rt, "c.db")?;
+    let mut copying = begun(&rt, "c.db", "d.db")?;
+    for _ in 0..3 {
+        add_row(&mut conn)?;
+        copying = go_on(&rt, copying, 1)?;
+    }
+    add_row(&mut conn)?;
     let copying = go_on(&rt, copying, 1)?;
-    write_both(
-        &rt,
-        "c.db",
-        bytes(&rt, 2_900_000, 100_001)?.as_slice(),
-        b"at last",
-    )?;
-    let copying = go_on(&rt, copying, 1)?;
-    write_both(&rt, "c.db", b"other pages", b"behind it")?;
-    let copying = go_on(&rt, copying, 2)?;
     assert_eq!(rt; count(&rt, "d.db")?, 2);
-    let last = copying.go_on(&rt);
-    assert!(rt; matches!(last, Ok(Progress::Whole(3_000_008))));
-    assert!(rt; fs::read(&rt, "d.db")? == bytes(&rt, 2_900_000, 100_001)?);
-    assert_eq!(rt;
-        fs::read(&rt, "d.db-wal")?.as_slice(),
-        b"at last".as_slice()
-    );
+    assert!(rt; matches!(copying.go_on(&rt), Ok(Progress::Whole(_))));
+    drop(conn);
+    assert_eq!(rt; count(&rt, "d.db")?, 1);
+    assert_eq!(rt; rows(&rt, "d.db")?, 3);
+    assert_eq!(rt; rows(&rt, "c.db")?, 4);
     clear(&rt, "c.db")?;
     clear(&rt, "d.db")
 }
@@ -123,7 +119,7 @@ fn copies_what_stands_at_its_last_look(rt: HostRuntime) -> Result<(), Fail> {
 fn leaves_what_has_a_name_alone(rt: HostRuntime) -> Result<(), Fail> {
     clear(&rt, "e.db")?;
     write_both(&rt, "e.db", b"pages", b"log")?;
-    for end in ["", "-wal", "-journal"] {
+    for end in ["", "-wal", "-journal", "-sums"] {
         clear(&rt, "f.db")?;
         let path = format!(in rt.alloc(); "f.db{end}")?;
         fs::write(&rt, path.as_str(), "mine")?;
@@ -138,8 +134,7 @@ fn leaves_what_has_a_name_alone(rt: HostRuntime) -> Result<(), Fail> {
     clear(&rt, "f.db")
 }
 
-// Nothing is left of a copy that is given up, or cannot be made; what one that was cut short has
-// left is no hindrance.
+// Nothing is left of a copy that is given up, or cannot be made.
 #[test]
 fn leaves_nothing_where_it_fails(rt: HostRuntime) -> Result<(), Fail> {
     clear(&rt, "g.db")?;
@@ -147,26 +142,25 @@ fn leaves_nothing_where_it_fails(rt: HostRuntime) -> Result<(), Fail> {
     assert_eq!(rt; copy_whole(&rt, "g.db", "h.db"), Err(CopyFault::Failed));
     assert_eq!(rt; count(&rt, "h.db")?, 0);
     write_both(&rt, "g.db", b"pages", b"log")?;
-    write_both(&rt, "h.db.part", b"half", b"")?;
-    for turns in 0..6u32 {
+    assert_eq!(rt; copy_whole(&rt, "g.db", "h.db"), Err(CopyFault::Failed));
+    assert_eq!(rt; count(&rt, "h.db")?, 0);
+    for turns in 0..4u32 {
         go_on(&rt, begun(&rt, "g.db", "h.db")?, turns)?.abandon(&rt);
         assert_eq!(rt; count(&rt, "h.db")?, 0);
     }
-    let _ = fs::remove_file(&rt, "h.db.part-wal");
     clear(&rt, "g.db")
 }
 
-// Cut short between its two names, a copy has its log alone: that is no hindrance either.
+// What a copy that was cut short has left is no hindrance.
 #[test]
-fn takes_away_a_log_without_its_database(rt: HostRuntime) -> Result<(), Fail> {
+fn takes_away_what_a_copy_has_left(rt: HostRuntime) -> Result<(), Fail> {
     clear(&rt, "i.db")?;
     clear(&rt, "j.db")?;
-    write_both(&rt, "i.db", b"pages", b"log")?;
-    fs::write(&rt, "j.db-wal", "whole")?;
-    fs::write(&rt, "j.db.part", "whole")?;
-    assert_eq!(rt; copy_whole(&rt, "i.db", "j.db"), Ok(8));
-    assert_eq!(rt; both(&rt, "j.db")?.as_slice(), b"pages|log".as_slice());
-    assert_eq!(rt; count(&rt, "j.db")?, 2);
+    drop(made(&rt, "i.db")?);
+    write_both(&rt, "j.db.part", b"half", b"of a log")?;
+    assert!(rt; copy_whole(&rt, "i.db", "j.db").is_ok());
+    assert_eq!(rt; count(&rt, "j.db")?, 1);
+    assert_eq!(rt; rows(&rt, "j.db")?, 0);
     clear(&rt, "i.db")?;
     clear(&rt, "j.db")
 }
