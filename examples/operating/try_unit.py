@@ -1,11 +1,12 @@
-"""Tries ledgerd.service of this folder under a systemd of its own, in a container that has no
-network but its own loopback, and ends with 1 at the first thing that does not hold.
+"""Tries the units of this folder under a systemd of its own, in a container that has no network but its
+own loopback. It ends with 1 at the first thing that does not hold.
 
-    python3 examples/operating/try_unit.py LEDGERD FOLDER
+    python3 examples/operating/try_unit.py LEDGERD FOLDER [unit_trials | timer_trials]
 
 LEDGERD is the program. It needs root, Debian's systemd-container and debootstrap, and 300 MB in
 FOLDER, where the container's files stay for the next time. It takes some minutes, and touches
-nothing of this machine's own systemd. `unit_trials.py` is what runs in the container."""
+nothing of this machine's own systemd. `unit_trials.py`, for the service, and `timer_trials.py`, for
+its copies and numbers, are what runs in the container; without a name both are run."""
 
 import os
 import pathlib
@@ -15,14 +16,14 @@ import sys
 import time
 
 HERE = pathlib.Path(__file__).resolve().parent
-FILES = ("ledgerd.service", "unit_trials.py")
+TRIALS = ("unit_trials", "timer_trials")
 PACKAGES = "systemd-sysv,dbus,iproute2,python3"
 # It runs the trials once the system is up, and ends it.
 TRIAL = """[Unit]
 After=multi-user.target
 [Service]
 Type=oneshot
-ExecStart=/usr/bin/python3 /trial/unit_trials.py
+ExecStart=/usr/bin/python3 /trial/{}.py
 ExecStopPost=/usr/bin/systemctl --no-block poweroff
 [Install]
 WantedBy=multi-user.target
@@ -31,24 +32,26 @@ WantedBy=multi-user.target
 FILTERS = ("--capability=CAP_BPF,CAP_NET_ADMIN,CAP_PERFMON", "--system-call-filter=bpf")
 
 
-def container(program, folder):
+def container(program, folder, trials):
     """The root folder of the container, with the program and the trials, as on a new machine."""
     root = pathlib.Path(folder).resolve() / "root"
     if not (root / "etc/debian_version").exists():
         subprocess.run(["debootstrap", "--variant=minbase", f"--include={PACKAGES}", "bookworm",
                         root], check=True, stdout=subprocess.DEVNULL)
     units = root / "etc/systemd/system"
-    for left in (root / "trial", root / "var/lib/ledgerd", root / "srv/copies",
-                 root / "var/log/journal", units / "ledgerd.service.d"):
-        shutil.rmtree(left, ignore_errors=True)
-    for left in units.glob("ledgerd*.service"):
-        left.unlink()
+    for left in (root / "trial", root / "var/lib/ledgerd", root / "srv/copies", root / "backup",
+                 root / "var/lib/prometheus", root / "var/lib/systemd/timers", root / "var/log/journal",
+                 *units.glob("ledgerd*.d"), *units.glob("*/ledgerd*"), *units.glob("ledgerd*.*")):
+        if left.is_dir():
+            shutil.rmtree(left)
+        else:
+            left.unlink(missing_ok=True)
     (root / "trial").mkdir()
-    for name in FILES:
-        shutil.copy(HERE / name, root / "trial")
+    for it in (*HERE.glob("ledgerd*"), *(HERE / f"{name}.py" for name in TRIALS)):
+        shutil.copy(it, root / "trial")
     shutil.copy(program, root / "usr/local/bin/ledgerd")
     os.chmod(root / "usr/local/bin/ledgerd", 0o755)
-    (units / "trial.service").write_text(TRIAL)
+    (units / "trial.service").write_text(TRIAL.format(trials))
     subprocess.run(["systemctl", f"--root={root}", "--quiet", "enable", "trial"], check=True)
     return root
 
@@ -74,9 +77,10 @@ def boot(root):
 
 
 def main():
-    if len(sys.argv) != 3 or os.geteuid() != 0:
+    if len(sys.argv) < 3 or not set(sys.argv[3:]) <= set(TRIALS) or os.geteuid() != 0:
         sys.exit(__doc__)
-    sys.exit(0 if boot(container(*sys.argv[1:])) else 1)
+    program, folder, *names = sys.argv[1:]
+    sys.exit(0 if all(boot(container(program, folder, it)) for it in names or TRIALS) else 1)
 
 
 main()

@@ -420,13 +420,15 @@ def trials():
     yield "all of it holds"
 
 
-def main():
+def main(lines=trials):
+    """Writes the line of each trial to the log, up to the first that does not hold."""
     with (HERE / "log").open("a", buffering=1) as log:
         try:
-            for told in trials():
+            for told in lines():
                 log.write(f"{told}\n")
         except Exception as error:
             log.write(f"{type(error).__name__}: {error}\n")
 
 
-main()
+if __name__ == "__main__":
+    main()
