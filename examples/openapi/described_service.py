@@ -29,6 +29,8 @@ FILTER = {"account_id": "1", "flags": 3, "limit": 10}
 BODIES = {"/accounts": ACCOUNTS, "/transfers": [TRANSFER], "/history/transfers": FILTER,
           "/history/balances": FILTER, "/query/accounts": {"limit": 10},
           "/query/transfers": {"limit": 10}, "/pending/open": {"limit": 10}}
+# Words that say where the body is refused, if the request asks for that.
+OF_BODY = {"body_not_json", "bad_field", "too_many_events"}
 # Words that need a state of the service, and not a request that is wrong.
 BY_STATE = {"clock_exhausted", "unavailable"}
 
@@ -112,6 +114,16 @@ def expect(description, method, template, status, word, reply):
         sys.exit(f"{method} {template}: {told} {body}, and the description has {status} {word}")
 
 
+def expect_detail(description, method, template, status, word, reply):
+    """A refusal of a body says what is wanted, and fits its schema."""
+    told, body = reply
+    answers = description.operation(method, path_of(template))["responses"]
+    description.check(json.loads(body), answers[status]["content"]["application/json"]["schema"])
+    given = json.loads(body)
+    if told != int(status) or given["error"] != word or "want" not in given:
+        sys.exit(f"{method} {template}: {told} {body}, and it should say what is wanted")
+
+
 def refused(description, tenant):
     """Provokes each refusal of each operation that a message can provoke. How many these were."""
     many = 0
@@ -121,6 +133,11 @@ def refused(description, tenant):
                 sent = wrong_message(word, method, template, tenant.key)
                 expect(description, method, template, status, word, tenant.send(sent))
                 many += 1
+                if word in OF_BODY and method == "POST":
+                    asking = sent.replace(b"\r\n", b"\r\nx-ledger-detail: 1\r\n", 1)
+                    reply = tenant.send(asking)
+                    expect_detail(description, method, template, status, word, reply)
+                    many += 1
     return many
 
 

@@ -9,6 +9,7 @@ use Rattle.ledger_http.specs.RefusalTable.{name_of}
 use Rattle.wire.specs.declared.outcome.Outcome.{Outcome}
 use Rattle.wire.specs.declared.outcome.Outcome.TheVariants as told
 use Rattle.wire.specs.declared.request.Request.{Request}
+use Rattle.wire.specs.Asked.{told_if_refused}
 use Rattle.wire.specs.Meaning.{meaning_of}
 use Rattle.wire.specs.Reply.{account_batch_data, transfer_batch_data, accounts_data}
 use Rattle.wire.specs.Reply.{transfers_data, balances_data, page_data, holds_data, refusal_data}
@@ -16,9 +17,9 @@ use Rattle.service.specs.Served.{served_by, served_to}
 use Rattle.bodies.specs.declared.plain_reply.PlainReply.{PlainReply}
 use Rattle.bodies.specs.declared.plain_reply.PlainReply.TheVariants.{Body, Refused, Unavailable}
 
--- what is asked with a body of transfers
-abbrev pub meant_by : List ℕ → Result Request Refusal
-meant_by body = meaning_of route.Transfers [] body
+-- what is asked with a body of transfers, or the refusal of it
+abbrev pub meant_by : List ℕ → Result Request Outcome
+meant_by body = told_if_refused told.Refused (meaning_of route.Transfers [] body)
 
 -- the body that shows an outcome, or the refusal
 abbrev pub shown : Outcome → Result (List ℕ) Refusal

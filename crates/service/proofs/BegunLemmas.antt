@@ -8,8 +8,8 @@ use Rattle.ledger_http.specs.Question.{Question, asked_of}
 use Rattle.ledger_http.proofs.MeaningLemmas.{one_head}
 use Rattle.ledger_http.specs.ReplyText.{reply_text}
 use Rattle.parts.specs.declared.rest.Rest.{Rest}
-use Rattle.ledger_http.specs.declared.refusal.Refusal.{Refusal}
 use Rattle.ledger_http.specs.declared.reply.Reply.{Reply}
+use Rattle.wire.specs.declared.outcome.Outcome.{Outcome}
 use Rattle.wire.specs.declared.request.Request.{Request}
 use Rattle.service.specs.Begun.{reply_of, reply_with, whole}
 use Rattle.service.specs.Deeds.{Asked, IsDeedDone}
@@ -26,7 +26,7 @@ so_whole P tenants reply begun is holds =
     subst (λ (b : Begun). P (reply_of tenants b)) (sym is) holds
 
 pub serves_whole :
-    (old new : Tenants) (digest : List ℕ) (meaning : Result Request Refusal) (moment : ℕ)
+    (old new : Tenants) (digest : List ℕ) (meaning : Result Request Outcome) (moment : ℕ)
     (reply : Reply) (begun : Begun) → begun ≡ whole reply →
     Serves old new digest meaning moment reply →
     Serves old new digest meaning moment (reply_of new begun)
@@ -55,7 +55,7 @@ available_where_left tenants begun r is told =
 
 -- what was served is done
 pub done_by :
-    (old new : Tenants) (digest : List ℕ) (meaning : Result Request Refusal) (moment : ℕ)
+    (old new : Tenants) (digest : List ℕ) (meaning : Result Request Outcome) (moment : ℕ)
     (reply : Reply) → Serves old new digest meaning moment reply → reply ≢ unavailable →
     IsDeedDone (Asked digest meaning moment) old new
 done_by old new digest meaning moment reply serves available = record {

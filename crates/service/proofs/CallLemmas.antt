@@ -6,7 +6,6 @@ use Rattle.chain.specs.declared.ledgers.BatchFault.TheVariants as batch
 use Rattle.chain.specs.declared.reads.ReadFault.{ReadFault}
 use Rattle.chain.specs.Ledgers.{LedgersMeaning, IsRun, Finds, IsAnswered, LeadsBy}
 use Rattle.chain.specs.LedgerReads.{IsShown, ReadsTenant, seen_in}
-use Rattle.ledger_http.specs.declared.refusal.Refusal.{Refusal}
 use Rattle.ledger_http.specs.declared.reply.Reply.{Reply}
 use Rattle.wire.specs.declared.outcome.Outcome.{Outcome}
 use Rattle.wire.specs.declared.read.Read.{Read}
@@ -65,11 +64,11 @@ none_left t old new reply begun is =
 
 -- what is served at once, as a reply that is begun
 pub begins_served :
-    {S : Type 0} (t : LedgersMeaning S) (digest : List ℕ) (asked meaning : Result Request Refusal) (moment : ℕ)
+    {S : Type 0} (t : LedgersMeaning S) (digest : List ℕ) (asked meaning : Result Request Outcome) (moment : ℕ)
     (old new : S) (reply : Reply) (begun : Begun) → asked ≡ meaning → begun ≡ whole reply →
     ServesOver t digest meaning moment old new reply → BeginsOver t digest asked moment old new begun
 begins_served t digest asked meaning moment old new reply begun is whole_is over =
-    subst (λ (m : Result Request Refusal). BeginsOver t digest m moment old new begun) (sym is) (record {
+    subst (λ (m : Result Request Outcome). BeginsOver t digest m moment old new begun) (sym is) (record {
       serves = λ live.
           serves_whole (t.tenants old) (t.tenants new) digest meaning moment reply begun whole_is (over.serves live);
       failed = λ has. whole_is ∙ ap whole (over.failed has);

@@ -12,7 +12,7 @@ use Rattle.ledger_http.specs.ReplyText.{early_text, reply_text}
 use Rattle.ledger_http.specs.Message.{HasHead}
 use Rattle.ledger_http.specs.Question.{Question, asked_of}
 use Rattle.ledger_http.specs.Alone.{StandsAlone as IsAlone}
-use Rattle.wire.specs.Meaning.{meaning_of}
+use Rattle.wire.specs.Asked.{meaning_in}
 use Rattle.wire.specs.Told.{outcome_text}
 use Rattle.service.specs.Served.{served_to}
 use Rattle.service.specs.Replies.{unavailable}
@@ -29,7 +29,7 @@ same_text (Ok q) old new old' new' moment text text' a a' agree =
     a.told
     ∙ (ap
     (λ (tenant : Option Machine). outcome_text
-    (served_to tenant (meaning_of q.route q.account q.body) moment).told)
+    (served_to tenant (meaning_in q) moment).told)
     (agree (sha256 q.key) refl)
     ∙ sym a'.told)
 same_text (Err early) old new old' new' moment text text' a a' agree = a.told ∙ sym a'.told
@@ -44,7 +44,7 @@ same_own (Ok q) old new old' new' moment text text' a a' agree digest is =
     ap new is
     ∙ (a.own
     ∙ (ap
-    (λ (tenant : Option Machine). (served_to tenant (meaning_of q.route q.account q.body)
+    (λ (tenant : Option Machine). (served_to tenant (meaning_in q)
     moment).left)
     (agree (sha256 q.key) refl)
     ∙ (sym a'.own ∙ sym (ap new' is))))

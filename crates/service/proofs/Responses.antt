@@ -14,7 +14,7 @@ use Rattle.ledger_http.specs.ReplyText.{early_reply, early_text, reply_text}
 use Rattle.ledger_http.specs.Results.{and_then}
 use Rattle.ledger_http.specs.Message.{First, HasHead, first_message}
 use Rattle.ledger_http.specs.Question.{Question, as_early, question_in, asked_of}
-use Rattle.wire.specs.Meaning.{meaning_of}
+use Rattle.wire.specs.Asked.{meaning_in}
 use Rattle.service.specs.Replies.{Serves, unavailable, told_early}
 use Rattle.service.specs.Responds.{AnswersAsked, Responds, RefusesEarly, TellsPage}
 use Rattle.service.specs.Responds.{TellsHealth, TellsFailure}
@@ -38,7 +38,7 @@ pub responds_to :
     (moment : ℕ) (reply : Reply) →
     HasHead bytes head → asked_of bytes head ≡ Ok question →
     Serves old new (sha256 question.key)
-    (meaning_of question.route question.account question.body) moment reply →
+    (meaning_in question) moment reply →
     Responds old new bytes moment reply
 responds_to old new bytes head question moment reply has is serves = record {
   head = head;

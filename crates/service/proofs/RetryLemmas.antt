@@ -6,7 +6,7 @@ use Rattle.records.specs.declared.reply.EventResult.{EventResult}
 use Rattle.records.specs.Machine.{Machine}
 use Rattle.records.specs.Step.{Outcome, Answered, Exhausted}
 use Rattle.engine.specs.FailedLaws.{OfEach}
-use Rattle.ledger_http.specs.declared.refusal.Refusal.{Refusal}
+use Rattle.wire.specs.declared.outcome.Outcome.{Outcome as Told}
 use Rattle.wire.specs.declared.request.Request.{Request}
 use Rattle.wire.specs.declared.request.Request.TheVariants as asks
 use Rattle.service.specs.Served.{left_by, served_by}
@@ -37,10 +37,10 @@ module _ (Leads : Machine → Machine → Type 0) (laws : StepLaws Leads)
     left_leads m moment (asks.Read asked) = laws.itself m
 
     served_leads :
-        (m : Machine) (meaning : Result Request Refusal) (moment : ℕ) →
+        (m : Machine) (meaning : Result Request Told) (moment : ℕ) →
         Leads m (served_by m meaning moment).left
     served_leads m (Ok request) moment = left_leads m moment request
-    served_leads m (Err refusal) moment = laws.itself m
+    served_leads m (Err outcome) moment = laws.itself m
 
     -- a machine that a tenant's leads to
     record Goes (m : Machine) (tenant : Option Machine) : Type 0 where

@@ -1,8 +1,8 @@
 -- What a call over the ledgers of many tenants tells and leaves, a word each.
 use Rattle.std.specs.Prelude.{◌≡◌, ◌≢◌, ℕ, true, List, Result, IfSome}
 use Rattle.chain.specs.Ledgers.{LedgersMeaning, Finds}
-use Rattle.ledger_http.specs.declared.refusal.Refusal.{Refusal}
 use Rattle.ledger_http.specs.declared.reply.Reply.{Reply}
+use Rattle.wire.specs.declared.outcome.Outcome.{Outcome}
 use Rattle.wire.specs.declared.request.Request.{Request}
 use Rattle.service.specs.declared.begun.Begun.{Begun}
 use Rattle.service.specs.Begun.{IsLeftOf, reply_of, whole}
@@ -13,7 +13,7 @@ use Rattle.service.specs.Responds.{IsQuestionAnswered, IsLeftBy}
 
 -- a request of one tenant is served, or refused where the ledgers have failed
 pub record ServesOver {S : Type 0} (t : LedgersMeaning S) (digest : List ℕ)
-    (meaning : Result Request Refusal) (moment : ℕ) (old new : S) (reply : Reply) : Type 0 where
+    (meaning : Result Request Outcome) (moment : ℕ) (old new : S) (reply : Reply) : Type 0 where
   pub serves :
       t.is_live new → Serves (t.tenants old) (t.tenants new) digest meaning moment reply
   pub failed : t.has_failed old ≡ true → reply ≡ unavailable
@@ -23,7 +23,7 @@ pub record ServesOver {S : Type 0} (t : LedgersMeaning S) (digest : List ℕ)
 
 -- the same of a reply that is begun; where something of it is left, the machines are as before
 pub record BeginsOver {S : Type 0} (t : LedgersMeaning S) (digest : List ℕ)
-    (meaning : Result Request Refusal) (moment : ℕ) (old new : S) (begun : Begun) : Type 0 where
+    (meaning : Result Request Outcome) (moment : ℕ) (old new : S) (begun : Begun) : Type 0 where
   pub serves :
       t.is_live new →
       Serves (t.tenants old) (t.tenants new) digest meaning moment (reply_of (t.tenants new) begun)

@@ -5,24 +5,24 @@ use Rattle.sha2.specs.Sha256.{sha256}
 use Rattle.records.specs.Machine.{Machine, new_machine}
 use Rattle.chain.specs.Ledgers.{Tenants, KeepsAll}
 use Rattle.ledger_http.specs.declared.early.Early.{Early}
-use Rattle.ledger_http.specs.declared.refusal.Refusal.{Refusal}
 use Rattle.ledger_http.specs.Question.{Question}
+use Rattle.wire.specs.declared.outcome.Outcome.{Outcome}
 use Rattle.wire.specs.declared.request.Request.{Request}
-use Rattle.wire.specs.Meaning.{meaning_of}
+use Rattle.wire.specs.Asked.{meaning_in}
 use Rattle.wire.specs.Told.{outcome_text}
 use Rattle.service.specs.Served.{served_to}
 
 -- the tenant with this digest asks for this at a moment; or it joins; or it has another key, and is
 -- known by the second digest from then on
 pub data Deed : Type 0 where
-  Asked : List ℕ → Result Request Refusal → ℕ → Deed
+  Asked : List ℕ → Result Request Outcome → ℕ → Deed
   Joined : List ℕ → Deed
   Keyed : List ℕ → List ℕ → Deed
 
 -- the deed of a question, and of whatever was asked
 abbrev pub asking : Question → ℕ → Deed
 asking question moment =
-    Asked (sha256 question.key) (meaning_of question.route question.account question.body) moment
+    Asked (sha256 question.key) (meaning_in question) moment
 
 abbrev pub deeds_in : Result Question Early → ℕ → List Deed
 deeds_in (Ok question) moment = asking question moment ∷ []

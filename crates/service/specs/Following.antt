@@ -18,6 +18,7 @@ use Rattle.service.specs.Served.{told_by, left_by}
 -- the clock that a reply tells, if it tells one
 abbrev pub clock_in : Outcome → Option ℕ
 clock_in (told.Refused why) = None
+clock_in (told.Detailed why fault) = None
 clock_in (told.AccountResults clock results) = Some clock
 clock_in (told.TransferResults clock results) = Some clock
 clock_in (told.Accounts clock accounts) = Some clock

@@ -9,7 +9,6 @@ use Rattle.chain.specs.declared.ledgers.BatchFault.TheVariants as fault
 use Rattle.chain.specs.Ledgers.{Tenants, KeepsAll, KeepsOthers}
 use Rattle.ledger_http.specs.declared.early.Early.{Early}
 use Rattle.ledger_http.specs.declared.early.Early.TheVariants as early
-use Rattle.ledger_http.specs.declared.refusal.Refusal.{Refusal}
 use Rattle.ledger_http.specs.declared.refusal.Refusal.TheVariants.{UnknownKey, Unavailable}
 use Rattle.ledger_http.specs.declared.refusal.Refusal.TheVariants as refused
 use Rattle.ledger_http.specs.declared.reply.Reply.{Reply}
@@ -47,7 +46,7 @@ pub record AnswersTenant (old new : Tenants) (digest : List ℕ)
   pub others : KeepsOthers digest old new
 
 -- a reply that answers the tenant, or is unavailable, and then nothing has changed
-pub record Serves (old new : Tenants) (digest : List ℕ) (meaning : Result Request Refusal)
+pub record Serves (old new : Tenants) (digest : List ℕ) (meaning : Result Request Outcome)
     (moment : ℕ) (reply : Reply) : Type 0 where
   pub answered :
       reply ≢ unavailable

@@ -25,7 +25,7 @@ pub record TellsEarly (old new : Tenants) (early : Early) (text : List ℕ) : Ty
 abbrev pub AnswersAsked : Tenants → Tenants → Result Question Early → ℕ → List ℕ → Type 0
 AnswersAsked old new (Ok question) moment text =
     AnswersTenant old new (sha256 question.key)
-    (λ tenant. served tenant question.route question.account question.body moment) text
+    (λ tenant. served tenant question moment) text
 AnswersAsked old new (Err early) moment text = TellsEarly old new early text
 
 -- the response to the first message of the bytes: an answer, or that the ledgers were unavailable,

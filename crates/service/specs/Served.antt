@@ -11,10 +11,9 @@ use Rattle.records.specs.Reads.{AccountAnswer, Found, found_accounts, found_tran
 use Rattle.records.specs.Reads.{history_answer, history_balances_answer, statement_answer}
 use Rattle.records.specs.Queries.{Page, queried_accounts, queried_transfers, open_holds}
 use Rattle.records.specs.Queries.{found_holds}
-use Rattle.ledger_http.specs.declared.refusal.Refusal.{Refusal}
 use Rattle.ledger_http.specs.declared.refusal.Refusal.TheVariants.{UnknownKey, NoAccount, NoHistory}
 use Rattle.ledger_http.specs.declared.refusal.Refusal.TheVariants.{ClockExhausted}
-use Rattle.ledger_http.specs.declared.route.Route.{Route}
+use Rattle.ledger_http.specs.Question.{Question}
 use Rattle.wire.specs.declared.outcome.Entries.{Entries}
 use Rattle.wire.specs.declared.outcome.Entries.TheVariants as entries
 use Rattle.wire.specs.declared.outcome.Outcome.{Outcome}
@@ -25,7 +24,7 @@ use Rattle.wire.specs.declared.read.Read.{Read}
 use Rattle.wire.specs.declared.read.Read.TheVariants as read
 use Rattle.wire.specs.declared.request.Request.{Request}
 use Rattle.wire.specs.declared.request.Request.TheVariants as asks
-use Rattle.wire.specs.Meaning.{meaning_of}
+use Rattle.wire.specs.Asked.{meaning_in}
 use Rattle.parts.specs.Chunks.{statement_chunks}
 
 -- what is told, and what is left
@@ -85,20 +84,20 @@ left_by m moment (asks.Accounts events) = step_machine account_rules m events mo
 left_by m moment (asks.Transfers events) = step_machine transfer_rules m events moment
 left_by m moment (asks.Read asked) = m
 
--- what a machine tells and what it is after a request, or after one that is refused
-abbrev pub served_by : Machine → Result Request Refusal → ℕ → Served Machine
+-- what a machine tells and what it is after a request, or after one that is refused with this
+abbrev pub served_by : Machine → Result Request Outcome → ℕ → Served Machine
 served_by m (Ok request) moment =
     record { told = told_by m moment request; left = left_by m moment request }
-served_by m (Err refusal) moment = record { told = told.Refused refusal; left = m }
+served_by m (Err outcome) moment = record { told = outcome; left = m }
 
 -- the same of a tenant, if there is one: a tenant that is not there is unknown, whatever it asks
-abbrev pub served_to : Option Machine → Result Request Refusal → ℕ → Served (Option Machine)
+abbrev pub served_to : Option Machine → Result Request Outcome → ℕ → Served (Option Machine)
 served_to None meaning moment = record { told = told.Refused UnknownKey; left = None }
 served_to (Some m) meaning moment = record {
   told = (served_by m meaning moment).told;
   left = Some (served_by m meaning moment).left;
 }
 
--- what is served to one tenant on a route, by the account in the path, the body and the moment
-abbrev pub served : Option Machine → Route → List ℕ → List ℕ → ℕ → Served (Option Machine)
-served tenant route account body moment = served_to tenant (meaning_of route account body) moment
+-- what is served to one tenant that asks a question at a moment
+abbrev pub served : Option Machine → Question → ℕ → Served (Option Machine)
+served tenant question moment = served_to tenant (meaning_in question) moment

@@ -1,8 +1,8 @@
 //! Answers one tenant's request.
-ghost use Rattle.std.specs.Prelude.{◌≡◌, ◌≢◌, ℕ, Result, Ok, Err};
+ghost use Rattle.std.specs.Prelude.{◌≡◌, ◌≢◌, ℕ, Ok, Err};
 ghost use Rattle.sha2.specs.Sha256.{sha256};
-ghost use Rattle.ledger_http.specs.declared.refusal.Refusal.{Refusal};
-ghost use Rattle.wire.specs.declared.request.Request.{Request};
+ghost use Rattle.ledger_http.specs.Question.{question_of};
+ghost use Rattle.wire.specs.Asked.{meaning_in};
 ghost use Rattle.wire.specs.Meaning.{meaning_of, HasFew};
 ghost use Rattle.service.specs.Calls.{BeginsOver, ServesOver};
 
@@ -13,7 +13,7 @@ use chain::Ledgers;
 use ledger_http::{Asked, Refusal, Reply};
 use std::alloc::Global;
 use tenants::digest;
-use wire::{Request, meaning};
+use wire::{Request, meaning, refused_reply};
 
 // Serves a request that is not refused, and begins the reply.
 fn serve_request<L: Ledgers>(
@@ -39,16 +39,24 @@ fn serve_request<L: Ledgers>(
 }
 
 // Refuses a request whose body is refused, unless there is no such tenant: that comes first.
-fn refuse<L: Ledgers>(ledgers: &mut L, digest: &[u8; 32], refusal: Refusal) -> Reply
-    ensures { (meaning : Result Request Refusal) (moment : ℕ)
-        → (refusal ≢ Refusal.Unavailable → meaning ≡ Err refusal)
-        → ServesOver L.means digest.now meaning moment ledgers.old ledgers.new result }
+fn refuse<L: Ledgers>(
+    alloc: Global,
+    ledgers: &mut L,
+    digest: &[u8; 32],
+    asked: &Asked,
+    refusal: Refusal,
+) -> Reply
+    ensures { (moment : ℕ)
+        → (refusal ≢ Refusal.Unavailable
+        → meaning_of asked.now.route asked.now.account.now asked.now.body.now ≡ Err refusal)
+        → ServesOver L.means digest.now (meaning_in (question_of asked.now)) moment
+        ledgers.old ledgers.new result }
 {
     let Ok(known) = ledgers.knows(digest) else {
         return Reply::Fixed(Refusal::Unavailable);
     };
     if known {
-        Reply::Fixed(refusal)
+        refused_reply(alloc, asked, refusal)
     } else {
         Reply::Fixed(Refusal::UnknownKey)
     }
@@ -61,13 +69,12 @@ pub(crate) fn answer<L: Ledgers>(
     asked: &Asked,
     moment: u64,
 ) -> Begun
-    ensures { BeginsOver L.means (sha256 asked.now.key)
-        (meaning_of asked.now.route asked.now.account.now asked.now.body.now) moment
+    ensures { BeginsOver L.means (sha256 asked.now.key) (meaning_in (question_of asked.now)) moment
         ledgers.old ledgers.new result }
 {
     let digest = digest(&asked.key);
     match meaning(alloc, asked) {
         Ok(request) => serve_request(alloc, ledgers, &digest, request, moment),
-        Err(refusal) => Begun::whole(refuse(ledgers, &digest, refusal)),
+        Err(refusal) => Begun::whole(refuse(alloc, ledgers, &digest, asked, refusal)),
     }
 }

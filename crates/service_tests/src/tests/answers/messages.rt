@@ -48,6 +48,14 @@ pub(crate) fn post(
     Ok(text.into_bytes())
 }
 
+/// A request by POST that asks where its body is refused.
+fn detailed(alloc: Global, path: &str, key: &str, body: &str) -> Result<Vec<u8>, AllocError> {
+    let path = format!(in alloc; "{path} HTTP/1.1\r\nx-ledger-detail: 1\r\nx-ledger-key: {key}")?;
+    let length = body.len();
+    let text = format!(in alloc; "POST {path}\r\ncontent-length: {length}\r\n\r\n{body}")?;
+    Ok(text.into_bytes())
+}
+
 /// A request by GET.
 pub(crate) fn get(alloc: Global, path: &str, key: &str) -> Result<Vec<u8>, AllocError> {
     let text = format!(in alloc; "GET {path} HTTP/1.1\r\nx-ledger-key: {key}\r\n\r\n")?;
@@ -72,8 +80,9 @@ pub(crate) fn written(alloc: Global, text: &str) -> Result<Vec<u8>, AllocError> 
 }
 
 /// What a firm sends: `base`, its accounts; `transfers 100: 1>2 10; 101: post=100 10`; `copies`,
-/// too many events; `cut`, which comes to no end; or a method, a path and a body. Of `raw` it is a
-/// message as it is written.
+/// too many events; `cut`, which comes to no end; or a method, a path and a body. The method
+/// `detail` is a POST that asks where its body is refused. The firm `raw` sends the message as it
+/// is written.
 fn bytes_of(alloc: Global, name: &str, what: &str) -> Result<Vec<u8>, AllocError> {
     let key = key_of(name);
     let (word, rest) = what.split_once(' ').unwrap_or((what, ""));
@@ -86,7 +95,11 @@ fn bytes_of(alloc: Global, name: &str, what: &str) -> Result<Vec<u8>, AllocError
         "transfers" => post(alloc, "/transfers", key, &transfers(alloc, rest)?),
         _ => {
             let (path, body) = rest.split_once(' ').unwrap_or((rest, ""));
-            post(alloc, path, key, body)
+            if word == "detail" {
+                detailed(alloc, path, key, body)
+            } else {
+                post(alloc, path, key, body)
+            }
         }
     }
 }
@@ -136,14 +149,18 @@ fn refusal(alloc: Global, text: &str) -> Result<Vec<u8>, AllocError> {
     reply(alloc, status, "application/json", &body)
 }
 
-/// The bytes of the whole reply that a text tells: the JSON of a good one, `clock` with results,
-/// `csv` with the lines of a statement, or a refusal.
+/// The bytes of the whole reply that a text describes. It is the JSON of a good one, `clock` with
+/// results, or `csv` with the lines of a statement. Or it is a refusal, or a status and JSON with
+/// `: ` between them.
 pub(crate) fn wanted(alloc: Global, text: &str) -> Result<Vec<u8>, AllocError> {
     let (word, rest) = text.split_once(' ').unwrap_or((text, ""));
     match word {
         _ if text.starts_with('{') => good(alloc, text),
         "clock" => good(alloc, &results(alloc, rest)?),
         "csv" => statement(alloc, rest),
-        _ => refusal(alloc, text),
+        _ => match text.split_once(": ") {
+            Some((status, body)) => reply(alloc, status, "application/json", body),
+            None => refusal(alloc, text),
+        },
     }
 }

@@ -15,6 +15,14 @@ raw => truncated 400 Bad Request
 North copies => too_many_events 413 Payload Too Large
 North@9 POST /accounts/lookup [] => {"accounts":[],"clock":"4"}
 
+# where a body is refused, if that is asked for
+North detail /transfers [{},{"id":"1","amount":1}] => 400 Bad Request: {"error":"bad_field",
+  "event":2,"field":"amount","want":"a string of decimal digits, with no zero in front, below 2^128"}
+North detail /transfers [{"id":"1"] => 400 Bad Request: {"error":"body_not_json","want":"JSON"}
+North detail /history/balances {"account_id":"9","flags":3,"limit":10} => no_account 404 Not Found
+North detail /accounts/lookup [] => {"accounts":[],"clock":"4"}
+South detail /transfers no list => unknown_key 401 Unauthorized
+
 # at the path of the console
 North POST / => bad_method 405 Method Not Allowed
 North GET /?x => no_route 404 Not Found
