@@ -1,6 +1,5 @@
 -- What stands first in what has come is answered, whatever comes later.
 use Rattle.std.proofs.Common.{◌≡◌, ◌≢◌, ◌⊎◌, ⊎_elim, inl, inr, refl, ap, sym, ◌∙◌, subst, ℕ, Bool, true, false, List, ◌++◌, take, drop, Option, Some, None, IfSome, arith}
-use Rattle.std.proofs.lemmas.Bool.{and_parts}
 use Rattle.std.proofs.lemmas.List.{append-nil}
 use Rattle.chain.specs.Ledgers.{LedgersMeaning, Finds, Tenants}
 use Rattle.ledger_http.specs.declared.refusal.Refusal.{Refusal}
@@ -14,10 +13,10 @@ use Rattle.parts.specs.Parts.{chunks_left}
 use Rattle.parts.specs.declared.rest.Rest.{Rest}
 use Rattle.service.specs.Begun.{reply_of, reply_with}
 use Rattle.service.specs.declared.begun.Begun.{Begun}
-use Rattle.service.specs.Connections.{IsCutOff, connection}
+use Rattle.service.specs.Connections.{IsCutOff, GoesOnAfter, connection}
 use Rattle.service.specs.Replies.{unavailable}
 use Rattle.service.specs.Responds.{Responds, RefusesEarly, IsQuestionAnswered, IsLeftBy, IsLeftSame}
-use Rattle.clients.specs.Talk.{Talk, may_answer, is_written}
+use Rattle.clients.specs.Talk.{Talk}
 use Rattle.clients.specs.Calls.{AnswersOn}
 use Rattle.clients.specs.Answering.{AreHeld, MayCome, IsExchange, IsUnmoved, IsReplyReady, TellsGivenUp}
 
@@ -43,7 +42,7 @@ at_known A bytes here unread known = let same : bytes ≡ unread = cc in subst A
 unfoldable pub answers_at :
     {S C : Type 0} (t : LedgersMeaning S) (gives : C → ℕ → C → Type 0) (ledgers ledgers_now : S)
     (moments moments_now : C) (old : Unread) (size moment : ℕ) (reply : Reply)
-    (goes_on : Bool) → goes_on ≡ true →
+    (goes_on : Bool) → GoesOnAfter (take size old.bytes) goes_on →
     BeginsStay → IsWhole old.bytes size → gives moments moment moments_now →
     (t.is_live ledgers_now →
     Responds (t.tenants ledgers) (t.tenants ledgers_now) (take size old.bytes) moment reply) →
@@ -75,7 +74,8 @@ answers_at t gives ledgers ledgers_now moments moments_now old size moment reply
 pub answers_whole :
     {S C : Type 0} (t : LedgersMeaning S) (gives : C → ℕ → C → Type 0) (ledgers ledgers_now : S)
     (moments moments_now : C) (old same now : Unread) (message : List ℕ) (size moment : ℕ)
-    (reply : Reply) →
+    (goes_on : Bool) (reply : Reply) →
+    GoesOnAfter message goes_on →
     BeginsStay → same ≡ old → now ≡ without size same → message ≡ take size same.bytes →
     IsWhole old.bytes size → gives moments moment moments_now →
     (t.is_live ledgers_now →
@@ -83,17 +83,18 @@ pub answers_whole :
     RefusesEarly message reply →
     Finds t (IsQuestionAnswered message reply) (IsLeftBy message moment) ledgers ledgers_now →
     t.follows ledgers ledgers_now →
-    IsExchange t gives ledgers moments old reply ledgers_now moments_now now true
+    IsExchange t gives ledgers moments old reply ledgers_now moments_now now goes_on
     × (now.ended ≡ old.ended)
-answers_whole t gives ledgers ledgers_now moments moments_now old same now message size moment reply stays is taken front whole given responds early finds follows =
+answers_whole t gives ledgers ledgers_now moments moments_now old same now message size moment goes_on reply going stays is taken front whole given responds early finds follows =
     let first : message ≡ take size old.bytes =
     front ∙ ap (λ (unread : Unread). take size unread.bytes) is in
     let left : now ≡ without size old = taken ∙ ap (λ (unread : Unread). without size unread) is in (
       subst
           (λ (unread : Unread).
-          IsExchange t gives ledgers moments old reply ledgers_now moments_now unread true)
+          IsExchange t gives ledgers moments old reply ledgers_now moments_now unread goes_on)
           (sym left)
-          (answers_at t gives ledgers ledgers_now moments moments_now old size moment reply true refl
+          (answers_at t gives ledgers ledgers_now moments moments_now old size moment reply goes_on
+          (subst (λ (bytes : List ℕ). GoesOnAfter bytes goes_on) first going)
           stays whole given
           (λ live.
           subst
@@ -223,13 +224,6 @@ has_replied t gives ledgers ledgers_now moments moments_now old inbox now outbox
       held = held;
       ended = exchanged.1 ∙ ap (λ (unread : Unread). unread.ended) first;
     }
-
--- a client that may be answered goes on
-pub goes_on_still :
-    (old : Talk) (inbox : Unread) (outbox : List ℕ) (rest : Option Rest) (goes_on : Bool) →
-    talk_of inbox outbox rest goes_on ≡ old → may_answer old ≡ true → true ≡ goes_on
-goes_on_still old inbox outbox rest goes_on is may =
-    sym (ap (λ (talk : Talk). talk.goes_on) is ∙ (and_parts old.goes_on (is_written old) may).0)
 
 -- nothing is answered
 pub stays_unmoved :

@@ -2,7 +2,7 @@
 use Rattle.std.proofs.Common.{append-nil, ◌≡◌, ◌≢◌, ◌⊎◌, inl, inr, refl, ap, sym, ◌∙◌, subst, ℕ, Bool, true, false}
 use Rattle.std.proofs.Common.{List, [], ◌∷◌, ◌++◌, take, bytes_eq, Some, Result, Ok, if◌then◌else◌}
 use Rattle.std.proofs.Math.Path.{fun_ext}
-use Rattle.std.proofs.lemmas.Bool.{true≢false, and_parts}
+use Rattle.std.proofs.lemmas.Bool.{true≢false}
 use Rattle.std.proofs.lemmas.Slice.Eq.{bytes_eq-Decides}
 use Rattle.chain.specs.Ledgers.{LedgersMeaning, Tenants, KeepsAll, Finds}
 use Rattle.ledger_http.specs.declared.early.Early.{Early}
@@ -10,7 +10,7 @@ use Rattle.ledger_http.specs.declared.reply.Reply.{Reply}
 use Rattle.ledger_http.specs.ReplyText.{reply_text}
 use Rattle.ledger_http.specs.Question.{Question}
 use Rattle.service.specs.Connections.{connection, Connection, IsFirstAnswered, IsTurnedAway, LacksMemory}
-use Rattle.service.specs.Connections.{IsCutOff}
+use Rattle.service.specs.Connections.{IsCutOff, GoesOnAfter}
 use Rattle.service.specs.Courses.{Replied}
 use Rattle.service.specs.ExchangeLaws.{answers_asked, whole_of}
 use Rattle.service.specs.Deeds.{asking, tenant_of, after_deed, IsDeedDone}
@@ -18,7 +18,7 @@ use Rattle.service.specs.Replies.{unavailable}
 use Rattle.service.specs.Responds.{Responds, RefusesEarly, IsLeftBy, IsLeftByAsked}
 use Rattle.service.specs.Responds as response
 use Rattle.service.specs.Seen.{SeenAt, Whole, Within, seen}
-use Rattle.clients.specs.Talk.{Talk, may_answer, is_written}
+use Rattle.clients.specs.Talk.{Talk}
 use Rattle.clients.specs.Answering.{IsReplyReady}
 use Rattle.clients.specs.Within.{replied_to, Asks, IsNextReady, after_asking, AnswersLeave, AreSeen}
 use Rattle.clients.specs.Within.{HeadsAreUnique}
@@ -153,14 +153,12 @@ answers_leave unique old new bytes question moment reply asks responds available
     after_by (bytes_eq (tenant_of (asking question moment)) digest) old new question moment digest refl
     (record { may = tt; own = answers.own; others = answers.others }))
 
-goes_on_of : (talk : Talk) → may_answer talk ≡ true → talk.goes_on ≡ true
-goes_on_of talk may = (and_parts talk.goes_on (is_written talk) may).0
-
 -- a message that is ready gets this reply
 ready_replied :
     {S C : Type 0} (t : LedgersMeaning S) (gives : C → ℕ → C → Type 0) → BeginsStay →
     (ledgers ledgers_now : S) (moments moments_now : C) (talk : Talk) (size moment : ℕ)
-    (question : Question) (reply : Reply) → IsNextReady talk size question →
+    (question : Question) (goes_on : Bool) (reply : Reply) → IsNextReady talk size question →
+    GoesOnAfter (take size talk.unread.bytes) goes_on →
     gives moments moment moments_now →
     (t.is_live ledgers_now →
     Responds (t.tenants ledgers) (t.tenants ledgers_now) (take size talk.unread.bytes) moment
@@ -169,12 +167,12 @@ ready_replied :
     (IsLeftBy (take size talk.unread.bytes) moment) ledgers ledgers_now →
     t.follows ledgers ledgers_now →
     IsReplyReady t gives ledgers moments talk reply ledgers_now moments_now
-    (replied_to size reply talk)
-ready_replied t gives stays ledgers ledgers_now moments moments_now talk size moment question reply
-    ready given responds finds follows = record {
+    (replied_to size goes_on reply talk)
+ready_replied t gives stays ledgers ledgers_now moments moments_now talk size moment question goes_on
+    reply ready going given responds finds follows = record {
       exchange =
           answers_at t gives ledgers ledgers_now moments moments_now talk.unread size moment reply
-          talk.goes_on (goes_on_of talk ready.may) stays ready.whole given responds
+          goes_on going stays ready.whole given responds
           (early_of (take size talk.unread.bytes) question reply ready.asks) finds follows;
       unsent = append-nil (reply_text reply);
       held = tt;
@@ -184,11 +182,11 @@ ready_replied t gives stays ledgers ledgers_now moments moments_now talk size mo
 pub replies_within :
     {S C : Type 0} (t : LedgersMeaning S) (gives : C → ℕ → C → Type 0) → BeginsStay →
     RepliesWithin t gives
-replies_within t gives stays ledgers machines moments moments_now talk size question moment reply
-    ready given follows responds =
+replies_within t gives stays ledgers machines moments moments_now talk size question moment goes_on
+    reply ready going given follows responds =
     ready_replied (seen t) gives stays (Within ledgers machines)
     (Within ledgers (after_asking question moment machines)) moments moments_now talk size moment
-    question reply ready given responds
+    question goes_on reply ready going given responds
     (record {
       found = λ found may.
           inr (
@@ -209,10 +207,10 @@ pub tells_unavailable :
     {S C : Type 0} (t : LedgersMeaning S) (gives : C → ℕ → C → Type 0) → BeginsStay →
     TellsUnavailable t gives
 unfolding ready_replied answers_at early_of
-tells_unavailable t gives stays ledgers moments moments_now talk size question moment ready given
-    follows = (
+tells_unavailable t gives stays ledgers moments moments_now talk size question moment goes_on ready
+    going given follows = (
       ready_replied t gives stays ledgers ledgers moments moments_now talk size moment question
-          unavailable ready given
+          goes_on unavailable ready going given
           (λ live. record {
             head = ready.asks.0;
             has = ready.asks.1;

@@ -55,9 +55,10 @@ AreHeld t ledgers rest =
 abbrev pub ExchangesFirst :
     {S C : Type 0} → LedgersMeaning S → (C → ℕ → C → Type 0) → S → C → Unread → S → C → Unread
     → Exchanged → Type 0
-ExchangesFirst t gives ledgers moments old ledgers_now moments_now new (exchanged.Answered begun) =
+ExchangesFirst t gives ledgers moments old ledgers_now moments_now new
+    (exchanged.Answered begun goes_on) =
     IsExchange t gives ledgers moments old (reply_of (t.tenants ledgers_now) begun) ledgers_now
-    moments_now new true
+    moments_now new goes_on
     × (new.ended ≡ old.ended)
     × AreHeld t ledgers_now begun.rest
 ExchangesFirst t gives ledgers moments old ledgers_now moments_now new (exchanged.Refused refusal) =

@@ -1,5 +1,5 @@
 -- A message that is answered in a round.
-use Rattle.std.specs.Prelude.{◌≡◌, ◌≢◌, refl, ℕ, true, List, [], ◌∷◌, take, bytes_eq, Option, None, Ok, if◌then◌else◌}
+use Rattle.std.specs.Prelude.{◌≡◌, ◌≢◌, refl, ℕ, Bool, true, List, [], ◌∷◌, take, bytes_eq, Option, None, Ok, if◌then◌else◌}
 use Rattle.httparse.specs.Grammar.{RequestHead}
 use Rattle.chain.specs.Ledgers.{LedgersMeaning, Tenants}
 use Rattle.ledger_http.specs.declared.reply.Reply.{Reply}
@@ -7,6 +7,7 @@ use Rattle.ledger_http.specs.Message.{HasHead}
 use Rattle.ledger_http.specs.Question.{Question, asked_of}
 use Rattle.ledger_http.specs.ReplyText.{reply_text}
 use Rattle.ledger_http.specs.Unread.{without, IsWhole}
+use Rattle.service.specs.Connections.{GoesOnAfter}
 use Rattle.service.specs.ConnectionEvents.{event_in}
 use Rattle.service.specs.Courses.{Replied}
 use Rattle.service.specs.Deeds.{asking, tenant_of, after_deed}
@@ -17,10 +18,22 @@ use Rattle.service.specs.Seen.{Whole, Within, seen}
 use Rattle.clients.specs.Talk.{Talk, may_answer}
 use Rattle.clients.specs.Answering.{IsReplyReady}
 
--- the next message, of so many bytes, is taken, and this reply to it is to be written
-abbrev pub replied_to : ℕ → Reply → Talk → Talk
-replied_to size reply talk =
-    record talk { unread = without size talk.unread; unsent = reply_text reply; rest = None }
+-- the next message, of so many bytes, is taken, and this reply to it is to be written; the
+-- connection goes on after it or not
+abbrev pub replied_to : ℕ → Bool → Reply → Talk → Talk
+replied_to size goes_on reply talk = record {
+  unread = without size talk.unread;
+  unsent = reply_text reply;
+  rest = None;
+  goes_on = goes_on;
+}
+
+-- the message says whether it goes on
+abbrev pub IsRepliedTo : ℕ → Reply → Talk → Talk → Type 0
+IsRepliedTo size reply talk talk_now =
+    (goes_on : Bool)
+    × GoesOnAfter (take size talk.unread.bytes) goes_on
+    × (talk_now ≡ replied_to size goes_on reply talk)
 
 -- the bytes ask this
 abbrev pub Asks : List ℕ → Question → Type 0
@@ -62,8 +75,9 @@ AreSeen {S} {C} t gives =
 abbrev pub RepliesWithin : {S C : Type 0} → LedgersMeaning S → (C → ℕ → C → Type 0) → Type 0
 RepliesWithin {S} {C} t gives =
     (ledgers : S) (machines : Tenants) (moments moments_now : C) (talk : Talk) (size : ℕ)
-    (question : Question) (moment : ℕ) (reply : Reply)
+    (question : Question) (moment : ℕ) (goes_on : Bool) (reply : Reply)
     → IsNextReady talk size question
+    → GoesOnAfter (take size talk.unread.bytes) goes_on
     → gives moments moment moments_now
     → t.follows ledgers ledgers
     → (t.is_live ledgers
@@ -71,19 +85,20 @@ RepliesWithin {S} {C} t gives =
     moment reply)
     → IsReplyReady (seen t) gives (Within ledgers machines) moments talk reply
     (Within ledgers (after_asking question moment machines)) moments_now
-    (replied_to size reply talk)
+    (replied_to size goes_on reply talk)
 
 -- a message may be told that the ledgers are unavailable, which are as they were; and that is its
 -- event
 abbrev pub TellsUnavailable : {S C : Type 0} → LedgersMeaning S → (C → ℕ → C → Type 0) → Type 0
 TellsUnavailable {S} {C} t gives =
     (ledgers : S) (moments moments_now : C) (talk : Talk) (size : ℕ) (question : Question)
-    (moment : ℕ)
+    (moment : ℕ) (goes_on : Bool)
     → IsNextReady talk size question
+    → GoesOnAfter (take size talk.unread.bytes) goes_on
     → gives moments moment moments_now
     → t.follows ledgers ledgers
     → (has :
     IsReplyReady t gives ledgers moments talk unavailable ledgers moments_now
-    (replied_to size unavailable talk))
+    (replied_to size goes_on unavailable talk))
     × (event_in unavailable (has.exchange [] (λ ended. refl)).by
     ≡ Replied (Ok question) moment unavailable ∷ [])

@@ -5,12 +5,12 @@ ghost use Rattle.clients.specs.Talk.{new_talk, received, input_ended, written, m
 ghost use Rattle.clients.specs.Talk.{continued, is_written};
 ghost use Rattle.clients.specs.Calls.{AnswersOn, TellsSize, TellsLength, MakesRoom};
 ghost use Rattle.clients.specs.Answering.{HasAnswered};
-ghost use Rattle.clients.specs.Within.{replied_to};
+ghost use Rattle.clients.specs.Within.{IsRepliedTo};
 
 use crate::exchanging::{Exchanged, exchange};
 use crate::outbox::Outbox;
 use chain::Ledgers;
-use ledger_http::{Inbox, Next, Refusal, Reply};
+use ledger_http::{Inbox, Next, Refusal, Reply, is_closing};
 use parts::{Part, Rest};
 use service::Moments;
 use std::alloc::{AllocError, Global};
@@ -120,9 +120,10 @@ impl Client {
             ledgers.new moments.new self.new result) }
     {
         match exchange(alloc, ledgers, moments, &mut self.inbox) {
-            Exchanged::Answered(begun) => {
+            Exchanged::Answered(begun, goes_on) => {
                 self.outbox.put(begun.front);
                 self.rest = begun.rest;
+                self.goes_on = goes_on;
                 Answered::Replied
             }
             Exchanged::Refused(refusal) => {
@@ -156,11 +157,13 @@ impl Client {
         self.inbox.front(size)
     }
 
-    /// Its next message, of so many bytes, is answered: this reply is to be written.
+    /// Its next message, of so many bytes, is answered: this reply is to be written. It is the
+    /// last, if the message says so.
     pub fn put_reply(&mut self, size: usize, reply: Reply)
         requires { size ≤ length self.old.unread.bytes }
-        ensures { self.new ≡ replied_to size reply self.old }
+        ensures { IsRepliedTo size reply self.old self.new }
     {
+        self.goes_on = !is_closing(self.inbox.front(size));
         self.inbox.take(size);
         self.outbox.put(reply);
         self.rest = None;

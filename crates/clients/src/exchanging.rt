@@ -3,15 +3,15 @@ ghost use Rattle.clients.specs.Calls.{AnswersOn};
 ghost use Rattle.clients.specs.Answering.{ExchangesFirst};
 
 use chain::Ledgers;
-use ledger_http::{Inbox, Next, Refusal, later_bytes_change_nothing};
+use ledger_http::{Inbox, Next, Refusal, is_closing, later_bytes_change_nothing};
 use service::{Begun, Moments, begin};
 use std::alloc::Global;
 
 /// What came of looking for a message.
 #[derive(Drop)]
 pub(crate) enum Exchanged {
-    /// The reply to a message that was taken.
-    Answered(Begun),
+    /// The reply to a message that was taken, and whether the connection goes on after it.
+    Answered(Begun, bool),
     /// What comes next is no message that is taken: the last reply.
     Refused(Refusal),
     /// The next message is not whole.
@@ -35,9 +35,11 @@ pub(crate) fn exchange<L: Ledgers, C: Moments>(
     match inbox.next() {
         Next::Whole(size) => {
             let moment = moments.moment();
-            let begun = begin(alloc, ledgers, inbox.front(size), moment);
+            let front = inbox.front(size);
+            let goes_on = !is_closing(front);
+            let begun = begin(alloc, ledgers, front, moment);
             inbox.take(size);
-            Exchanged::Answered(begun)
+            Exchanged::Answered(begun, goes_on)
         }
         Next::Refused(refusal) => Exchanged::Refused(refusal),
         Next::Wanting => Exchanged::Wanting,

@@ -1,3 +1,4 @@
+use Rattle.std.proofs.Common.{refl}
 use Rattle.service.specs.Begun.{reply_of}
 use Rattle.clients.specs.Answering.{IsAllAnswered, IsWanting}
 use Rattle.clients.proofs.ExchangeLemmas.{answers_whole, answers_refused, held_so, stays_unmoved}
@@ -7,15 +8,16 @@ pub returns-in-Whole : goal.returns-in-Whole
 returns-in-Whole g c = record {
   answers =
       let whole =
-      answers_whole g.L.Ledgers.means g.C.Moments.gives _ _ _ _ c.args.inbox.now _ _ _ c.in-Whole.size _
+      answers_whole g.L.Ledgers.means g.C.Moments.gives _ _ _ _ c.args.inbox.now _ _ _ c.in-Whole.size _ _
       (reply_of (g.L.Ledgers.means.tenants c.begin-begun.new.ledgers) c.begin-begun.result)
+      (c.is_closing-goes_on.result, c.is_closing-goes_on.ensures, refl)
       c.later_bytes_change_nothing.ensures.begins c.next.ensures.same
-      c.take.ensures c.front.ensures (rw c.in-Whole.is at c.next.ensures.next) c.moment-moment.ensures
+      c.take.ensures c.front-front.ensures (rw c.in-Whole.is at c.next.ensures.next) c.moment-moment.ensures
       c.begin-begun.ensures.replies.responds c.begin-begun.ensures.replies.early c.begin-begun.ensures.replies.finds
       c.begin-begun.ensures.replies.follows in (
         whole.0,
         whole.1,
-        held_so g.L.Ledgers.means c.front.result.now c.moment-moment.result
+        held_so g.L.Ledgers.means c.front-front.result.now c.moment-moment.result
             (g.L.Ledgers.means.tenants c.args.ledgers.now) c.begin-begun.new.ledgers c.begin-begun.result.rest c.begin-begun.ensures.left,
       );
   follows = c.begin-begun.ensures.replies.follows;

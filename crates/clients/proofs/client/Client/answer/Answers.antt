@@ -1,30 +1,20 @@
-use Rattle.std.proofs.Common.{append-nil, subst, ◌∙◌, Bool}
+use Rattle.std.proofs.Common.{append-nil, ◌∙◌}
 use Rattle.service.specs.Begun.{reply_of}
-use Rattle.clients.specs.Answering.{IsExchange, IsWanting, IsAllAnswered}
-use Rattle.clients.proofs.ExchangeLemmas.{has_replied, goes_on_still, is_unmoved, put_whole}
+use Rattle.clients.specs.Answering.{IsWanting, IsAllAnswered}
+use Rattle.clients.proofs.ExchangeLemmas.{has_replied, is_unmoved, put_whole}
 use Rattle.clients.proofs.client.Client.answer.Goals as goal
 
 pub returns-in-Answered : goal.returns-in-Answered
 returns-in-Answered g c = record {
   answers =
       let exchanged = rw c.in-Answered.is at c.exchange.ensures.answers in
-      let goes_on =
-      goes_on_still c.args.self.now c.self.inside.inbox c.self.inside.outbox c.self.inside.rest
-      c.self.inside.goes_on c.self.view_is c.requires in
       let tenants = g.L.Ledgers.means.tenants c.exchange.new.ledgers in
       let reply = reply_of tenants c.in-Answered.begun in (
         reply,
         has_replied g.L.Ledgers.means g.C.Moments.gives _ _ _ _ c.args.self.now _ _
-            c.self.inside.outbox _ c.self.inside.rest c.in-Answered.begun.rest c.self.inside.goes_on reply c.self.inside.goes_on
-            c.self.view_is (put_whole tenants c.in-Answered.begun _ c.put.ensures) exchanged.2 (
-              subst
-                  (λ (goes : Bool).
-                  IsExchange g.L.Ledgers.means g.C.Moments.gives c.args.ledgers.now
-                  c.args.moments.now c.self.inside.inbox reply c.exchange.new.ledgers
-                  c.exchange.new.moments c.exchange.new.inbox goes)
-                  goes_on exchanged.0,
-              exchanged.1,
-            ),
+            c.self.inside.outbox _ c.self.inside.rest c.in-Answered.begun.rest c.self.inside.goes_on reply c.in-Answered.goes_on
+            c.self.view_is (put_whole tenants c.in-Answered.begun _ c.put.ensures) exchanged.2
+            (exchanged.0, exchanged.1),
       );
   follows = c.exchange.ensures.follows;
 }
