@@ -5,9 +5,9 @@ than it should be.
     python3 examples/clients/try_clients.py LEDGERD [WORD]
 
 With WORD only the lines that have it are tried. Debian has the tools: apache2-utils (ab), curl,
-golang-go, haproxy, nginx-light, nodejs, openjdk-17-jdk-headless (java), python3-requests, wrk. It was
-last run with curl 7.88, Python 3.11, requests 2.34, node 20, Java 17, Go 1.19, wrk 4.1, ab 2.3, nginx
-1.22 and haproxy 2.6."""
+golang-go, haproxy, nginx-light, nodejs, openjdk-17-jdk-headless (java), php-cli, python3-requests,
+wrk. It was last run with curl 7.88, Python 3.11, requests 2.34, node 20, Java 17, Go 1.19, PHP 8.2,
+wrk 4.1, ab 2.3, nginx 1.22 and haproxy 2.6."""
 
 import collections
 import importlib.util
@@ -22,10 +22,13 @@ import time
 
 import ways
 from served import ended, free_port, served, wait_for
-from ways import BAD_HEAD, GOOD, HERE, TOO_LARGE, Place, curl, go, java, node
+from ways import BAD_HEAD, GOOD, HERE, TOO_LARGE, Place, curl, go, java, node, php
 
 PROXY = HERE.parent / "operating/haproxy.cfg"
-Case = collections.namedtuple("Case", "name tool way expected")
+# It is answered so, within so many seconds if that matters.
+Case = collections.namedtuple("Case", "name tool way expected seconds", defaults=[None])
+# A client that reads to the end of its connection waits for `--idle`, unless it is ended before.
+QUICK = 10
 CHUNKS = ("-X", "POST", "-T", "-")
 ALONE = [
     Case("curl -d", "curl", curl("-d", "[]"), GOOD),
@@ -50,6 +53,9 @@ ALONE = [
     Case("go, a bytes.Reader in turn", "go", go("turn", 10), GOOD),
     Case("go, a bytes.Reader at once", "go", go("once", 10), GOOD),
     Case("go, another reader", "go", go("stream", 1), BAD_HEAD),
+    Case("php, file_get_contents in turn", "php", php(10), GOOD, QUICK),
+    Case("a socket, connection: close", "python3", ways.to_the_end("close"), GOOD, QUICK),
+    Case("a socket, connection: te, Close", "python3", ways.to_the_end("te, Close"), GOOD, QUICK),
     Case("wrk", "wrk", ways.wrk, GOOD),
     Case("ab", "ab", ways.ab, BAD_HEAD),
 ]
@@ -115,7 +121,7 @@ def try_all(title, place, cases, word):
         start = time.perf_counter()
         found = collections.Counter(case.way(place))
         seconds = time.perf_counter() - start
-        is_good = set(found) == {case.expected}
+        is_good = set(found) == {case.expected} and seconds <= (case.seconds or seconds)
         wrong += not is_good
         answers = ", ".join(f"{count} times {status}" for status, count in found.items())
         print(f"{name}: {answers or 'no answer'}, {seconds:.1f} s{'' if is_good else ', WRONG'}",

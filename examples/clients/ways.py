@@ -5,6 +5,7 @@ import http.client
 import os
 import pathlib
 import re
+import socket
 import subprocess
 import tempfile
 import time
@@ -127,6 +128,24 @@ def java(way, count):
 def go(way, count):
     script = str(HERE / "post.go")
     return lambda place: told("go", "run", script, place.url, KEY, way, str(count)).split()
+
+
+def php(count):
+    script = str(HERE / "post.php")
+    return lambda place: told("php", script, place.url, KEY, str(count)).split()
+
+
+def to_the_end(value):
+    """A bare socket that sends a request with this `connection` header, and behind it one for no
+    route; it reads until the service ends the connection."""
+    def send(place):
+        first = (f"POST /transfers HTTP/1.1\r\nconnection: {value}\r\nx-ledger-key: {KEY}\r\n"
+                 f"content-length: {len(NONE)}\r\n\r\n").encode() + NONE
+        with socket.create_connection(("127.0.0.1", place.port), timeout=PATIENCE) as link:
+            link.sendall(first + b"GET /nowhere HTTP/1.1\r\n\r\n")
+            with link.makefile("rb") as replies:
+                return [line.split()[1].decode() for line in replies if line.startswith(b"HTTP")]
+    return send
 
 
 def ab(place):
