@@ -8,7 +8,7 @@ ghost use Rattle.sqlite.specs.Held.{state};
 ghost use Rattle.ledger_sql.specs.Calls.{Changes, IfClean};
 ghost use Rattle.ledger_sql.specs.Frames.{Live, Follows};
 ghost use Rattle.stored_ledgers.specs.Resting.{IsQuiet, IsSame};
-ghost use Rattle.stored_ledgers.specs.Calls.{Sees};
+ghost use Rattle.stored_ledgers.specs.Calls.{LeavesSeen};
 ghost use Rattle.migrate.specs.Raising.{HasBalanceTables, IsSeen, Prepares};
 ghost use Rattle.migrate.specs.Raising.{RaisesOrBegins, RaisesOrTells, RaisesWhole};
 ghost use Rattle.migrate.specs.Upgrading.{IsOlder, older_schema};
@@ -106,8 +106,8 @@ impl Upgrade<'_> {
 
     /// Looks at the newer ledger, as an opening does.
     fn look<S: Alter>(&self, conn: &mut Connection<S>) -> Result<DueSets, OpenFault>
-        ensures { Sees (λ db sets. IsSeen self.now.rows.now.version sets db)
-            S.Store conn.old conn.new result }
+        ensures { LeavesSeen (λ db sets. IsSeen self.now.rows.now.version sets db)
+            (state S.Store conn.old) (state S.Store conn.new) result }
     {
         if self.rows.version < CURRENT_VERSION {
             examine_older(self.alloc, conn, BALANCE_VERSION, &FullAudit)?;
@@ -130,7 +130,7 @@ fn judged_fault<S: Alter>(conn: &mut Connection<S>, fault: OpenFault) -> OpenFau
         OpenFault::Unavailable(why) => why,
         _ => Unavailable::Size,
     };
-    match judged::<S, ()>(conn, Err(why)) {
+    match judged::<Connection<S>, ()>(conn, Err(why)) {
         Err(Unavailable::Disk) => OpenFault::Unavailable(Unavailable::Disk),
         _ => fault,
     }

@@ -5,7 +5,7 @@ ghost use Rattle.std.specs.List.{AllZip};
 ghost use Rattle.sqlite.specs.State.{HasCleanDisk};
 ghost use Rattle.sqlite.specs.Held.{state};
 ghost use Rattle.ledger_sql.specs.Frames.{Follows};
-ghost use Rattle.stored_ledgers.specs.Calls.{Sees, TellsAtRest};
+ghost use Rattle.stored_ledgers.specs.Calls.{LeavesSeen, LeavesToldAtRest};
 ghost use Rattle.stored_ledgers.specs.Resting.{HoldsHere};
 ghost use Rattle.records.specs.declared.unavailable.Unavailable.TheVariants.{Disk};
 ghost use Rattle.stored_ledgers.specs.Looks.{Looks};
@@ -29,8 +29,8 @@ pub fn all_rows<S: Alter>(
     version: u32,
 ) -> Result<AllRows, Unavailable>
     requires { HoldsHere (state S.Store conn.old) }
-    ensures { TellsAtRest Disk (λ db rows. AreAllRows version db.trees rows)
-        S.Store conn.old conn.new result }
+    ensures { LeavesToldAtRest Disk (λ db rows. AreAllRows version db.trees rows)
+        (state S.Store conn.old) (state S.Store conn.new) result }
 {
     rows_in(alloc, conn, version)
 }
@@ -43,8 +43,8 @@ pub fn rows_in<S: Alter>(
 ) -> Result<AllRows, Unavailable>
     requires { CanBeRead version (state S.Store conn.old) }
     ensures version { IfOk result (λ rows. rows.version ≡ version) }
-    ensures tells { TellsAtRest Disk (λ db rows. AreAllRows version db.trees rows)
-        S.Store conn.old conn.new result }
+    ensures tells { LeavesToldAtRest Disk (λ db rows. AreAllRows version db.trees rows)
+        (state S.Store conn.old) (state S.Store conn.new) result }
 {
     let rows = read_all(alloc, conn, version);
     judged(conn, rows)
@@ -58,8 +58,8 @@ pub fn rows_of<S: Alter>(
     digest: &[u8; 32],
 ) -> Result<Option<TenantRows>, Unavailable>
     requires { HoldsHere (state S.Store conn.old) }
-    ensures { TellsAtRest Disk (λ db rows. AreRowsOfDigest version digest.now db.trees rows)
-        S.Store conn.old conn.new result }
+    ensures { LeavesToldAtRest Disk (λ db rows. AreRowsOfDigest version digest.now db.trees rows)
+        (state S.Store conn.old) (state S.Store conn.new) result }
 {
     let rows = try_rows_of(alloc, conn, version, digest);
     judged(conn, rows)
@@ -73,8 +73,8 @@ fn try_rows_of<S: Alter>(
     digest: &[u8; 32],
 ) -> Result<Option<TenantRows>, Unavailable>
     requires { HoldsHere (state S.Store conn.old) }
-    ensures { Sees (λ db rows. AreRowsOfDigest version digest.now db.trees rows)
-        S.Store conn.old conn.new result }
+    ensures { LeavesSeen (λ db rows. AreRowsOfDigest version digest.now db.trees rows)
+        (state S.Store conn.old) (state S.Store conn.new) result }
 {
     let Some(number) = find_tenant(conn, digest)? else {
         return Ok(None);

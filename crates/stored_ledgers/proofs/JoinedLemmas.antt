@@ -215,6 +215,13 @@ module _ (number : ℕ) (name digest : List ℕ) (old new : Database) (ledgers :
         )
   ]
 
+-- sets with the same entries cover the same
+pub same_entries : (trees : Trees) (sets sets' : DueSets) → sets'.entries ≡ sets.entries
+    → AreCovered sets trees → AreCovered sets' trees
+same_entries trees sets sets' same covered d n is =
+    let covers = covered d n is in
+    (covers.0, rw same covers.1, covers.2)
+
 -- sets with one more for a number that no tenant has cover what they covered
 pub sets_more : (number : ℕ) (trees : Trees) (sets sets' : DueSets)
     → with_number (pos number) trees ≡ []

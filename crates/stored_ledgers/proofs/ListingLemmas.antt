@@ -141,7 +141,7 @@ module _ (trees : Trees) where
     order = order;
   }
 
--- a connection that only read
+-- tables that were only read
 still_same : (a b : State) → IsUnchanged a b → IsQuiet a → IsSame a b
 still_same a b same quiet = record {
   now = same.0.now_is;

@@ -1,4 +1,4 @@
--- A connection after a change to what it serves.
+-- A ledger's tables after a change to what it serves.
 use Rattle.std.specs.Prelude.{IsTrue}
 use Rattle.std.proofs.Common.{◌≡◌, ◌≢◌, Result, Ok, Err, sym, subst, ◌∙◌}
 use Rattle.records.specs.declared.unavailable.Unavailable.{Unavailable}
@@ -20,7 +20,7 @@ rests_still sets old new serves same quiet =
     let there = subst (CanServe sets) (sym same.now) serves in
     record { quiet = quiet; ledgers = there.ledgers; covered = there.covered }
 
--- after a change that keeps what is served a connection serves on, whatever was answered, also
+-- after a change that keeps what is served the tables serve on, whatever was answered, also
 -- where the answer is told in other words
 pub serves_after : {O R A : Type 0} (answer : Answer O R) (result : Result A Unavailable)
     (does : O → Type 0) (refuses : R → Type 0) (sets : DueSets) (old new : State)

@@ -1,9 +1,7 @@
--- What a call over a connection to ledgers answers and leaves: one word for each kind of call.
+-- What a call over tables of ledgers answers and leaves: one word for each kind of call.
 use Rattle.std.specs.Prelude.{◌≢◌, Result, Err, IfOk, IsTrue}
 use Rattle.sqlite_trees.specs.Tree.{Trees}
-use Rattle.sqlite_trees.specs.declared.store.Store.{Ghosts}
 use Rattle.sqlite.specs.Effect.{Database}
-use Rattle.sqlite.specs.Held.{Held, state}
 use Rattle.sqlite.specs.State.{State, HasCleanDisk, Survives}
 use Rattle.ledger_sql.specs.Frames.{Live}
 use Rattle.stored_ledgers.specs.DueSets.{DueSets}
@@ -30,19 +28,10 @@ pub record ServesOn {A E : Type 0} (disk : E) (sets : DueSets) (new : State)
   pub is_open : HasCleanDisk new → result ≢ Err disk → IsTrue new.is_open
 
 -- what a change of which tenants there are leaves: this is told of the databases before and after
--- it, the connection serves on, and a crash may leave what was there before it, or this
+-- it, the tables serve on, and a crash may leave what was there before it, or this
 pub record ChangesTenants {A E : Type 0} (disk : E) (Told : Database → Database → Type 0)
     (Left : Database → Trees → Type 0) (sets : DueSets) (old new : State) (result : Result A E)
     : Type 0 where
   pub told : Live new → Told old.now new.now
   pub serves : ServesOn disk sets new result
   pub survives : Survives old new (Left old.now)
-
-abbrev pub Sees : {S A E : Type 0} → (Database → A → Type 0) → Ghosts S → Held S → Held S
-    → Result A E → Type 0
-Sees Answer store old new result = LeavesSeen Answer (state store old) (state store new) result
-
-abbrev pub TellsAtRest : {S A E : Type 0} → E → (Database → A → Type 0) → Ghosts S → Held S
-    → Held S → Result A E → Type 0
-TellsAtRest disk Answer store old new result =
-    LeavesToldAtRest disk Answer (state store old) (state store new) result

@@ -1,4 +1,4 @@
--- What a call that only looks at a database leaves of its connection.
+-- What a call that only looks at a database leaves of it.
 use Rattle.std.specs.Prelude.{◌≢◌, Result, Err, OnOk, IsTrue}
 use Rattle.sqlite.specs.State.{State, HasCleanDisk, IsUnchanged}
 use Rattle.ledger_sql.specs.Frames.{Live, Follows}

@@ -1,4 +1,4 @@
--- A connection between two batches.
+-- A ledger's tables between two batches.
 use Rattle.std.specs.Prelude.{◌≡◌, false, [], IsTrue}
 use Rattle.sqlite_schema.specs.declared.schema.Schema.{Schema}
 use Rattle.sqlite.specs.Effect.{Database}

@@ -1,4 +1,4 @@
--- A connection that only read since.
+-- Tables that were only read since.
 use Rattle.std.proofs.Common.{refl, sym, subst, ◌∙◌, IsTrue}
 use Rattle.sqlite.specs.Effect.{Database}
 use Rattle.sqlite.specs.State.{State, IsUnchanged}

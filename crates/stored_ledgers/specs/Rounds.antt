@@ -1,4 +1,4 @@
--- A connection in a round: a transaction in which work of several tenants is done.
+-- A ledger's tables in a round: a transaction in which work of several tenants is done.
 use Rattle.std.specs.Prelude.{◌≡◌, ℕ, Bool, true, false, List, [], Option, Some, None, IsTrue}
 use Rattle.records.specs.declared.unavailable.Unavailable.{Unavailable}
 use Rattle.records.specs.declared.unavailable.Unavailable.TheVariants.{Memory, Size, Disk}

@@ -2,7 +2,6 @@
 
 ghost use Rattle.std.specs.Prelude.{◌≡◌, None};
 ghost use Rattle.sqlite.specs.State.{Survives};
-ghost use Rattle.sqlite.specs.Held.{state};
 ghost use Rattle.records.specs.declared.unavailable.Unavailable.TheVariants.{Disk};
 ghost use Rattle.chain.specs.Ledgers.{IsRun};
 ghost use Rattle.ledger_sql.specs.Frames.{Live};
@@ -14,8 +13,8 @@ ghost use Rattle.stored_ledgers.specs.Resting.{IsServing, CanServe};
 use crate::transactions::{Change, in_transaction};
 use crate::working::{Worked, forget, work_here};
 use chain::{BatchFault, Work};
+use ledger_tables::LedgerTables;
 use records::Unavailable;
-use sqlite::{Alter, Connection};
 use std::collections::{BTreeMap, BTreeSet};
 
 /// For each tenant's number the due times, in nanoseconds, and ids of its pending transfers.
@@ -27,23 +26,23 @@ pub struct UnknownKey;
 
 /// Runs a batch of work on the tables of the tenant with this digest, if there is one, and commits
 /// all of it or nothing.
-pub fn in_batch<S: Alter, W: Work + Drop>(
-    conn: &mut Connection<S>,
+pub fn in_batch<T: LedgerTables, W: Work + Drop>(
+    tables: &mut T,
     due: &mut DueSets,
     digest: &[u8; 32],
     work: W,
 ) -> Result<Result<W::Output, UnknownKey>, Unavailable>
-    requires { IsServing due.old (state S.Store conn.old) }
-    ensures run { Live (state S.Store conn.new) → IsRun (W.gives work) digest.now
-        (tenants_in (state S.Store conn.old).now.trees)
-        (tenants_in (state S.Store conn.new).now.trees) (batch_answer result) }
-    ensures tables { Live (state S.Store conn.new)
-        → KeepsTables (state S.Store conn.old).now (state S.Store conn.new).now }
-    ensures serves { ServesOn Disk due.new (state S.Store conn.new) result }
-    ensures survives { Survives (state S.Store conn.old) (state S.Store conn.new)
-        (IsAfterBatch (W.gives work) digest.now (state S.Store conn.old).now) }
+    requires { IsServing due.old (T.state tables.old) }
+    ensures run { Live (T.state tables.new) → IsRun (W.gives work) digest.now
+        (tenants_in (T.state tables.old).now.trees)
+        (tenants_in (T.state tables.new).now.trees) (batch_answer result) }
+    ensures tables { Live (T.state tables.new)
+        → KeepsTables (T.state tables.old).now (T.state tables.new).now }
+    ensures serves { ServesOn Disk due.new (T.state tables.new) result }
+    ensures survives { Survives (T.state tables.old) (T.state tables.new)
+        (IsAfterBatch (W.gives work) digest.now (T.state tables.old).now) }
 {
-    match in_transaction(conn, due, TenantBatch { digest, work }) {
+    match in_transaction(tables, due, TenantBatch { digest, work }) {
         Ok(Ok(worked)) => {
             // Behind the commit nothing leads back to a clock before it.
             forget(due, worked.past);
@@ -76,12 +75,12 @@ impl<W: Work + Drop> Change for TenantBatch<'_, W> {
 
     ghost refuses = { λ batch sets old unknown. tenants_in old.trees batch.digest.now ≡ None };
 
-    fn run<S: Alter>(
+    fn run<T: LedgerTables>(
         self,
-        conn: &mut Connection<S>,
+        tables: &mut T,
         due: &mut DueSets,
     ) -> Result<Result<Worked<W::Output>, UnknownKey>, Unavailable> {
-        work_here(conn, due, self.digest, self.work)
+        work_here(tables, due, self.digest, self.work)
     }
 }
 

@@ -3,18 +3,15 @@
 ghost use Rattle.std.specs.Prelude.{◌≡◌, is_some, option_map, All, IsPermutation, IsSorted, IfSome};
 ghost use Rattle.records.specs.declared.unavailable.Unavailable.TheVariants.{Disk};
 ghost use Rattle.sqlite.specs.State.{HasCleanDisk};
-ghost use Rattle.sqlite.specs.Held.{state};
-ghost use Rattle.stored_ledgers.specs.Calls.{Sees, TellsAtRest};
+ghost use Rattle.stored_ledgers.specs.Calls.{LeavesSeen, LeavesToldAtRest};
 ghost use Rattle.stored_ledgers.specs.Directory.{tenants_in, digest_in, first_digest, with_number};
 ghost use Rattle.stored_ledgers.specs.Listing.{AreListed, AreThose, IsThat, IsTenantOf, IsMadeOf, by_name};
 ghost use Rattle.stored_ledgers.specs.Resting.{HoldsHere};
 
 use crate::probe::judged;
-use ledger_sql::finding::{find_clock, find_tenant, find_tenant_by_name, find_tenant_by_number};
-use ledger_sql::listing::directory;
+use ledger_tables::LedgerTables;
 use records::Unavailable;
 use rows::DirectoryRow;
-use sqlite::{Alter, Connection};
 use std::alloc::Global;
 use tenants::TenantName;
 
@@ -29,39 +26,40 @@ pub struct ListedTenant {
 }
 
 /// Whether a tenant has this digest.
-pub fn knows<S: Alter>(conn: &mut Connection<S>, digest: &[u8; 32]) -> Result<bool, Unavailable>
-    requires { HoldsHere (state S.Store conn.old) }
-    ensures { TellsAtRest Disk (λ db known. known ≡ is_some (tenants_in db.trees digest.now))
-        S.Store conn.old conn.new result }
+pub fn knows<T: LedgerTables>(tables: &mut T, digest: &[u8; 32]) -> Result<bool, Unavailable>
+    requires { HoldsHere (T.state tables.old) }
+    ensures { LeavesToldAtRest Disk (λ db known. known ≡ is_some (tenants_in db.trees digest.now))
+        (T.state tables.old) (T.state tables.new) result }
 {
-    let number = find_tenant(conn, digest);
-    Ok(judged(conn, number)?.is_some())
+    let number = tables.find_tenant(digest);
+    Ok(judged(tables, number)?.is_some())
 }
 
 /// The digest of the tenant with this name.
-pub fn digest_of<S: Alter>(
-    conn: &mut Connection<S>,
+pub fn digest_of<T: LedgerTables>(
+    tables: &mut T,
     name: &TenantName,
 ) -> Result<Option<[u8; 32]>, Unavailable>
-    requires { HoldsHere (state S.Store conn.old) }
-    ensures { TellsAtRest Disk (λ db digest. digest ≡ digest_in name.now db.trees)
-        S.Store conn.old conn.new result }
+    requires { HoldsHere (T.state tables.old) }
+    ensures { LeavesToldAtRest Disk (λ db digest. digest ≡ digest_in name.now db.trees)
+        (T.state tables.old) (T.state tables.new) result }
 {
-    let row = find_tenant_by_name(conn, name.as_str());
-    Ok(digest_in(judged(conn, row)?))
+    let row = tables.find_tenant_by_name(name.as_str());
+    Ok(digest_in(judged(tables, row)?))
 }
 
 /// The digest of the tenant with this number.
-pub(crate) fn digest_numbered<S: Alter>(
-    conn: &mut Connection<S>,
+pub(crate) fn digest_numbered<T: LedgerTables>(
+    tables: &mut T,
     number: i64,
 ) -> Result<Option<[u8; 32]>, Unavailable>
-    requires { HoldsHere (state S.Store conn.old) }
-    ensures { TellsAtRest Disk (λ db digest. digest ≡ first_digest (with_number number db.trees))
-        S.Store conn.old conn.new result }
+    requires { HoldsHere (T.state tables.old) }
+    ensures { LeavesToldAtRest Disk
+        (λ db digest. digest ≡ first_digest (with_number number db.trees))
+        (T.state tables.old) (T.state tables.new) result }
 {
-    let row = find_tenant_by_number(conn, number);
-    Ok(digest_in(judged(conn, row)?))
+    let row = tables.find_tenant_by_number(number);
+    Ok(digest_in(judged(tables, row)?))
 }
 
 /// The digest in a row of the directory, if there is one.
@@ -73,63 +71,64 @@ fn digest_in(row: Option<DirectoryRow>) -> Option<[u8; 32]>
 
 /// All tenants, by name. Of the tables only the directory and the clocks are read. A name in the
 /// directory that no tenant may have is answered `Size`: an opening lets no such file through.
-pub fn tenants<S: Alter>(
+pub fn tenants<T: LedgerTables>(
     alloc: Global,
-    conn: &mut Connection<S>,
+    tables: &mut T,
 ) -> Result<Vec<ListedTenant>, Unavailable>
-    requires { HoldsHere (state S.Store conn.old) }
-    ensures { TellsAtRest Disk (λ db tenants. AreListed db.trees tenants.items)
-        S.Store conn.old conn.new result }
+    requires { HoldsHere (T.state tables.old) }
+    ensures { LeavesToldAtRest Disk (λ db tenants. AreListed db.trees tenants.items)
+        (T.state tables.old) (T.state tables.new) result }
 {
-    let tenants = try_tenants(alloc, conn);
-    judged(conn, tenants)
+    let tenants = try_tenants(alloc, tables);
+    judged(tables, tenants)
 }
 
 /// The same, where a failure may have shut the database unnoticed.
-fn try_tenants<S: Alter>(
+fn try_tenants<T: LedgerTables>(
     alloc: Global,
-    conn: &mut Connection<S>,
+    tables: &mut T,
 ) -> Result<Vec<ListedTenant>, Unavailable>
-    requires { HoldsHere (state S.Store conn.old) }
-    ensures { Sees (λ db tenants. AreListed db.trees tenants.items)
-        S.Store conn.old conn.new result }
+    requires { HoldsHere (T.state tables.old) }
+    ensures { LeavesSeen (λ db tenants. AreListed db.trees tenants.items)
+        (T.state tables.old) (T.state tables.new) result }
 {
-    let rows = directory(alloc, conn)?;
-    let mut tenants = with_clocks(alloc, conn, rows.as_slice())?;
+    let rows = tables.directory(alloc)?;
+    let mut tenants = with_clocks(alloc, tables, rows.as_slice())?;
     sort_by_name(&mut tenants);
     Ok(tenants)
 }
 
 /// The tenants of these rows, each with its clock.
-fn with_clocks<S: Alter>(
+fn with_clocks<T: LedgerTables>(
     alloc: Global,
-    conn: &mut Connection<S>,
+    tables: &mut T,
     rows: &[DirectoryRow],
 ) -> Result<Vec<ListedTenant>, Unavailable>
-    requires here { HoldsHere (state S.Store conn.old) }
-    requires found { HasCleanDisk (state S.Store conn.old)
-        → All (IsTenantOf (state S.Store conn.old).now.trees) rows.now }
-    ensures { Sees (λ db tenants. AreThose db.trees rows.now tenants.items)
-        S.Store conn.old conn.new result }
+    requires here { HoldsHere (T.state tables.old) }
+    requires found { HasCleanDisk (T.state tables.old)
+        → All (IsTenantOf (T.state tables.old).now.trees) rows.now }
+    ensures { LeavesSeen (λ db tenants. AreThose db.trees rows.now tenants.items)
+        (T.state tables.old) (T.state tables.new) result }
 {
     let mut tenants = Vec::new(alloc);
     for row in rows {
-        tenants.push(with_clock(conn, row)?)?;
+        tenants.push(with_clock(tables, row)?)?;
     }
     Ok(tenants)
 }
 
 /// The tenant of this row, with its clock.
-fn with_clock<S: Alter>(
-    conn: &mut Connection<S>,
+fn with_clock<T: LedgerTables>(
+    tables: &mut T,
     row: &DirectoryRow,
 ) -> Result<ListedTenant, Unavailable>
-    requires here { HoldsHere (state S.Store conn.old) }
-    requires found { HasCleanDisk (state S.Store conn.old)
-        → IsTenantOf (state S.Store conn.old).now.trees row.now }
-    ensures { Sees (λ db tenant. IsThat db.trees row.now tenant) S.Store conn.old conn.new result }
+    requires here { HoldsHere (T.state tables.old) }
+    requires found { HasCleanDisk (T.state tables.old)
+        → IsTenantOf (T.state tables.old).now.trees row.now }
+    ensures { LeavesSeen (λ db tenant. IsThat db.trees row.now tenant)
+        (T.state tables.old) (T.state tables.new) result }
 {
-    let clock = find_clock(conn, row.number)?;
+    let clock = tables.find_clock(row.number)?;
     listed(row, clock).ok_or(Unavailable::Size)
 }
 

@@ -3,9 +3,8 @@
 ghost use Rattle.std.specs.Prelude.{◌≡◌, ◌<◌, ◌≤◌, ℕ, pos, true, None, Some, Err, IfSome};
 ghost use Rattle.std.specs.Ordering.{int_eq};
 ghost use Rattle.records.specs.declared.unavailable.Unavailable.TheVariants.{Disk};
-ghost use Rattle.sqlite.specs.Held.{state};
-ghost use Rattle.ledger_sql.specs.Calls.{IfClean};
-ghost use Rattle.stored_ledgers.specs.Calls.{ChangesTenants, Sees};
+ghost use Rattle.ledger_tables.specs.Calls.{IfHonest};
+ghost use Rattle.stored_ledgers.specs.Calls.{ChangesTenants, LeavesSeen};
 ghost use Rattle.stored_ledgers.specs.Directory.{IsLeastFree, IsLeastMissing, has_number};
 ghost use Rattle.stored_ledgers.specs.Joining.{HasJoined, Joined, IsJoined, joining_answer, AreTaken};
 ghost use Rattle.stored_ledgers.specs.Ledger.{HoldsLedgers};
@@ -13,12 +12,9 @@ ghost use Rattle.stored_ledgers.specs.Resting.{IsServing, CanServe};
 
 use crate::batches::DueSets;
 use crate::transactions::{Change, in_transaction};
-use ledger_sql::adding::{add_clock, add_tenant};
-use ledger_sql::finding::{find_tenant, find_tenant_by_name};
-use ledger_sql::listing::directory;
+use ledger_tables::LedgerTables;
 use records::Unavailable;
 use rows::DirectoryRow;
-use sqlite::{Alter, Connection};
 use std::alloc::Global;
 use std::collections::BTreeSet;
 use tenants::TenantName;
@@ -42,17 +38,17 @@ pub enum Taken {
 }
 
 /// Adds a tenant to the directory, with its clock, or tells what is taken.
-pub fn join<S: Alter>(
+pub fn join<T: LedgerTables>(
     alloc: Global,
-    conn: &mut Connection<S>,
+    tables: &mut T,
     due: &mut DueSets,
     name: &TenantName,
     digest: &[u8; 32],
 ) -> Result<Result<(), Taken>, Unavailable>
-    requires { IsServing due.old (state S.Store conn.old) }
+    requires { IsServing due.old (T.state tables.old) }
     ensures { ChangesTenants Disk
         (λ old new. HasJoined name.now digest.now old new (joining_answer result))
-        (Joined name.now digest.now) due.new (state S.Store conn.old) (state S.Store conn.new)
+        (Joined name.now digest.now) due.new (T.state tables.old) (T.state tables.new)
         result }
 {
     let joining = Joining {
@@ -60,7 +56,7 @@ pub fn join<S: Alter>(
         name,
         digest,
     };
-    in_transaction(conn, due, joining)
+    in_transaction(tables, due, joining)
 }
 
 /// The adding of a tenant.
@@ -87,48 +83,50 @@ impl Change for Joining<'_> {
     ghost refuses = { λ it sets old taken.
         AreTaken it.name.now it.digest.now old.trees (Some taken) };
 
-    fn run<S: Alter>(
+    fn run<T: LedgerTables>(
         self,
-        conn: &mut Connection<S>,
+        tables: &mut T,
         due: &mut DueSets,
     ) -> Result<Result<(), Taken>, Unavailable> {
-        if let Some(taken) = what_is_taken(conn, self.name, self.digest)? {
+        if let Some(taken) = what_is_taken(tables, self.name, self.digest)? {
             return Ok(Err(taken));
         }
-        let number = free_number(self.alloc, conn)?;
-        add_tenant(conn, i64::from(number), self.name.as_str(), self.digest)?;
-        add_clock(conn, i64::from(number), 0)?;
+        let number = free_number(self.alloc, tables)?;
+        tables.add_tenant(i64::from(number), self.name.as_str(), self.digest)?;
+        tables.add_clock(i64::from(number), 0)?;
         due.insert(i64::from(number), BTreeSet::new(self.alloc))?;
         Ok(Ok(()))
     }
 }
 
 /// What another tenant has, the name being asked for first.
-fn what_is_taken<S: Alter>(
-    conn: &mut Connection<S>,
+fn what_is_taken<T: LedgerTables>(
+    tables: &mut T,
     name: &TenantName,
     digest: &[u8; 32],
 ) -> Result<Option<Taken>, Unavailable>
-    requires { IfClean (λ s. HoldsLedgers s.now) S.Store conn.old }
-    ensures { Sees (λ db taken. AreTaken name.now digest.now db.trees taken)
-        S.Store conn.old conn.new result }
+    requires { IfHonest (λ s. HoldsLedgers s.now) (T.state tables.old) }
+    ensures { LeavesSeen (λ db taken. AreTaken name.now digest.now db.trees taken)
+        (T.state tables.old) (T.state tables.new) result }
 {
-    if find_tenant_by_name(conn, name.as_str())?.is_some() {
+    if tables.find_tenant_by_name(name.as_str())?.is_some() {
         return Ok(Some(Taken::Name));
     }
     Ok(
-        find_tenant(conn, digest)?
+        tables
+            .find_tenant(digest)?
             .is_some()
             .then_some(Taken::Digest),
     )
 }
 
 /// The least number from 1 that no tenant has.
-fn free_number<S: Alter>(alloc: Global, conn: &mut Connection<S>) -> Result<u32, Unavailable>
-    requires { IfClean (λ s. HoldsLedgers s.now) S.Store conn.old }
-    ensures { Sees (λ db number. IsLeastFree number db.trees) S.Store conn.old conn.new result }
+fn free_number<T: LedgerTables>(alloc: Global, tables: &mut T) -> Result<u32, Unavailable>
+    requires { IfHonest (λ s. HoldsLedgers s.now) (T.state tables.old) }
+    ensures { LeavesSeen (λ db number. IsLeastFree number db.trees)
+        (T.state tables.old) (T.state tables.new) result }
 {
-    let rows = directory(alloc, conn)?;
+    let rows = tables.directory(alloc)?;
     least_missing(rows.as_slice()).ok_or(Unavailable::Size)
 }
 

@@ -2,17 +2,14 @@
 
 ghost use Rattle.std.specs.Prelude.{◌≡◌, Err};
 ghost use Rattle.records.specs.declared.unavailable.Unavailable.TheVariants.{Disk};
-ghost use Rattle.sqlite.specs.Held.{state};
 ghost use Rattle.stored_ledgers.specs.Calls.{ChangesTenants};
 ghost use Rattle.stored_ledgers.specs.Keying.{HasKeyed, Keyed, IsKeyed, IsKeyRefused, keying_answer};
 ghost use Rattle.stored_ledgers.specs.Resting.{IsServing, CanServe};
 
 use crate::batches::DueSets;
 use crate::transactions::{Change, in_transaction};
-use ledger_sql::finding::{find_tenant, find_tenant_by_name};
-use ledger_sql::setting::set_digest;
+use ledger_tables::LedgerTables;
 use records::Unavailable;
-use sqlite::{Alter, Connection};
 use tenants::TenantName;
 
 /// Why a tenant's key was not changed, in the order in which it is tested. Nothing has changed;
@@ -35,19 +32,19 @@ pub enum KeyRefused {
 
 /// Gives the tenant with this name the key of this digest. One that has it already keeps it, and
 /// nothing changes.
-pub fn change_key<S: Alter>(
-    conn: &mut Connection<S>,
+pub fn change_key<T: LedgerTables>(
+    tables: &mut T,
     due: &mut DueSets,
     name: &TenantName,
     digest: &[u8; 32],
 ) -> Result<Result<(), KeyRefused>, Unavailable>
-    requires { IsServing due.old (state S.Store conn.old) }
+    requires { IsServing due.old (T.state tables.old) }
     ensures { ChangesTenants Disk
         (λ old new. HasKeyed name.now digest.now old new (keying_answer result))
-        (Keyed name.now digest.now) due.new (state S.Store conn.old) (state S.Store conn.new)
+        (Keyed name.now digest.now) due.new (T.state tables.old) (T.state tables.new)
         result }
 {
-    in_transaction(conn, due, Keying { name, digest })
+    in_transaction(tables, due, Keying { name, digest })
 }
 
 /// The change of a tenant's key.
@@ -72,22 +69,22 @@ impl Change for Keying<'_> {
     ghost refuses = { λ it sets old refused.
         IsKeyRefused it.name.now it.digest.now old.trees refused };
 
-    fn run<S: Alter>(
+    fn run<T: LedgerTables>(
         self,
-        conn: &mut Connection<S>,
+        tables: &mut T,
         due: &mut DueSets,
     ) -> Result<Result<(), KeyRefused>, Unavailable> {
         let Keying { name, digest } = self;
-        let Some(row) = find_tenant_by_name(conn, name.as_str())? else {
+        let Some(row) = tables.find_tenant_by_name(name.as_str())? else {
             return Ok(Err(KeyRefused::NoTenant));
         };
         if row.digest == *digest {
             return Ok(Ok(()));
         }
-        if find_tenant(conn, digest)?.is_some() {
+        if tables.find_tenant(digest)?.is_some() {
             return Ok(Err(KeyRefused::DigestTaken));
         }
-        set_digest(conn, row.number, digest)?;
+        tables.set_digest(row.number, digest)?;
         Ok(Ok(()))
     }
 }

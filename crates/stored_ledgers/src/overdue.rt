@@ -4,7 +4,6 @@ ghost use Rattle.std.specs.Prelude.{◌≡◌, ◌≤◌, ◌⊎◌, None, Some}
 ghost use Rattle.std.specs.Prelude.{IfOk, IfSome, OnErr, MatchOption};
 ghost use Rattle.records.specs.declared.unavailable.Unavailable.TheVariants.{Disk};
 ghost use Rattle.sqlite.specs.State.{HasCleanDisk};
-ghost use Rattle.sqlite.specs.Held.{state};
 ghost use Rattle.stored_ledgers.specs.Directory.{first_digest, with_number};
 ghost use Rattle.stored_ledgers.specs.Overdue.{FindsOverdue, FindsSome, FindsNone};
 ghost use Rattle.stored_ledgers.specs.Overdue.{FindsUnlisted, piece_of};
@@ -15,8 +14,8 @@ use crate::batches::DueSets;
 use crate::directory::digest_numbered;
 use crate::due_search::Piece;
 pub use crate::due_search::Search;
+use ledger_tables::LedgerTables;
 use records::Unavailable;
-use sqlite::{Alter, Connection};
 
 /// A tenant with holds that are due.
 #[derive(Clone, Copy, Debug, PartialEq, Eq)]
@@ -48,30 +47,30 @@ fn with_digest(number: i64, piece: Piece, digest: Option<[u8; 32]>) -> Option<Ov
 /// nanoseconds, and tells the first tenant that has some: many, or one for a second. The sets alone
 /// are looked at, and of the tables no more than that tenant's row of the directory. None is told
 /// too of a number that the directory lacks, and after an `Err` the search has gone on as well.
-pub fn find_overdue<S: Alter>(
-    conn: &mut Connection<S>,
+pub fn find_overdue<T: LedgerTables>(
+    tables: &mut T,
     due: &DueSets,
     search: &mut Search,
     moment: u64,
 ) -> Result<Option<Overdue>, Unavailable>
-    requires { HoldsHere (state S.Store conn.old) }
+    requires { HoldsHere (T.state tables.old) }
     ensures by { IfOk result (λ found. IfSome found (λ overdue. overdue.until ≤ moment)) }
     ensures found { IfOk result (λ found. IfSome found (λ overdue.
         FindsOverdue due.now moment search.old search.new overdue.number (piece_of overdue))) }
-    ensures listed { HasCleanDisk (state S.Store conn.new) → IfOk result (λ found.
+    ensures listed { HasCleanDisk (T.state tables.new) → IfOk result (λ found.
         IfSome found (λ overdue. Some overdue.digest
-        ≡ first_digest (with_number overdue.number (state S.Store conn.old).now.trees))) }
+        ≡ first_digest (with_number overdue.number (T.state tables.old).now.trees))) }
     ensures none { IfOk result (λ found. found ≡ None
         → FindsNone due.now moment search.old search.new
         ⊎ FindsUnlisted due.now moment search.old search.new (λ number.
-        HasCleanDisk (state S.Store conn.new)
-        → first_digest (with_number number (state S.Store conn.old).now.trees) ≡ None)) }
+        HasCleanDisk (T.state tables.new)
+        → first_digest (with_number number (T.state tables.old).now.trees) ≡ None)) }
     ensures failed { OnErr result (FindsSome due.now moment search.old search.new) }
-    ensures reads { ReadsAtRest Disk (state S.Store conn.old) (state S.Store conn.new) result }
+    ensures reads { ReadsAtRest Disk (T.state tables.old) (T.state tables.new) result }
 {
     let Some((number, piece)) = search.next(due, moment) else {
         return Ok(None);
     };
-    let digest = digest_numbered(conn, number)?;
+    let digest = digest_numbered(tables, number)?;
     Ok(with_digest(number, piece, digest))
 }

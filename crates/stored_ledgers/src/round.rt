@@ -6,27 +6,25 @@ ghost use Rattle.stored_ledgers.specs.Rounds.{is_of_disk};
 use crate::batches::{DueSets, UnknownKey};
 use crate::working::{Past, work_here};
 use chain::{Backend, BatchFault, Work};
-use ledger_sql::finding::find_tenant;
+use ledger_tables::LedgerTables;
 use records::Unavailable;
-use sqlite::{Alter, Connection};
 
-/// The ledgers of a connection in an open transaction.
+/// The ledgers of tables in an open transaction.
 ///
 /// Once a call has answered `Unavailable`, each answers so, and whoever lent the ledgers takes all
 /// of the round back.
 #[derive(Drop)]
-pub(crate) struct Round<'a, S: Alter> {
-    pub(crate) conn: &'a mut Connection<S>,
+pub(crate) struct Round<'a, T: LedgerTables> {
+    pub(crate) tables: &'a mut T,
     pub(crate) due: &'a mut DueSets,
     pub(crate) failure: Option<Unavailable>,
     /// The clocks before the batches that were run.
     pub(crate) pasts: &'a mut Vec<Past>,
 }
 
-impl<S: Alter> Backend for Round<'_, S> {
+impl<T: LedgerTables> Backend for Round<'_, T> {
     ghost use Rattle.std.specs.Prelude.{◌≡◌, None, refl};
     ghost use Rattle.std.proofs.Common.{◌∙◌};
-    ghost use Rattle.sqlite.specs.Held.{state as conn_state};
     ghost use Rattle.ledger_sql.specs.Frames.{Live};
     ghost use Rattle.stored_ledgers.specs.Directory.{tenants_in};
     ghost use Rattle.stored_ledgers.specs.Rounds.{CanGoOn, FindsHere, FollowsInRound, is_of_disk};
@@ -34,19 +32,19 @@ impl<S: Alter> Backend for Round<'_, S> {
 
     ghost means = { record {
       ledgers = record {
-        tenants = λ r. tenants_in (conn_state S.Store r.conn.now).now.trees;
-        is_live = λ r. (r.failure ≡ None) × Live (conn_state S.Store r.conn.now);
+        tenants = λ r. tenants_in (T.state r.tables.now).now.trees;
+        is_live = λ r. (r.failure ≡ None) × Live (T.state r.tables.now);
         has_failed = λ r. is_of_disk r.failure;
         follows = λ a b.
-            (b.conn.ghost_name ≡ a.conn.ghost_name)
+            (b.tables.ghost_name ≡ a.tables.ghost_name)
             × (b.due.ghost_name ≡ a.due.ghost_name)
             × (b.pasts.ghost_name ≡ a.pasts.ghost_name)
             × FollowsInRound a.due.now b.due.now a.failure b.failure
-            (conn_state S.Store a.conn.now) (conn_state S.Store b.conn.now);
-        may_find = λ r found. FindsHere (conn_state S.Store r.conn.now) found;
+            (T.state a.tables.now) (T.state b.tables.now);
+        may_find = λ r found. FindsHere (T.state r.tables.now) found;
       };
       is_usable = λ r.
-          CanGoOn r.failure r.due.now r.pasts.now.items (conn_state S.Store r.conn.now);
+          CanGoOn r.failure r.due.now r.pasts.now.items (T.state r.tables.now);
     } };
 
     fn has_failed(&self) -> bool {
@@ -61,7 +59,7 @@ impl<S: Alter> Backend for Round<'_, S> {
         if let Some(why) = self.failure {
             return Err(BatchFault::Unavailable(why));
         }
-        match work_here(self.conn, self.due, digest, work) {
+        match work_here(self.tables, self.due, digest, work) {
             Ok(Ok(worked)) => match self.pasts.push(worked.past) {
                 Ok(()) => Ok(worked.output),
                 Err(why) => Err(BatchFault::Unavailable(fail(
@@ -78,7 +76,7 @@ impl<S: Alter> Backend for Round<'_, S> {
         if let Some(why) = self.failure {
             return Err(why);
         }
-        match find_tenant(self.conn, digest) {
+        match self.tables.find_tenant(digest) {
             Ok(number) => Ok(number.is_some()),
             Err(why) => Err(fail(&mut self.failure, why)),
         }

@@ -2,7 +2,6 @@
 
 ghost use Rattle.std.specs.Prelude.{None, IfOk, OnOk, OnErr};
 ghost use Rattle.sqlite.specs.State.{Survives};
-ghost use Rattle.sqlite.specs.Held.{state};
 ghost use Rattle.sqlite_trees.specs.Tree.{Trees};
 ghost use Rattle.records.specs.declared.unavailable.Unavailable.TheVariants.{Disk};
 ghost use Rattle.ledger_sql.specs.Frames.{Live};
@@ -19,31 +18,31 @@ use crate::transactions::{Change, in_transaction};
 use crate::working::{Past, forget};
 use chain::{Backend, InUse, RoundWork};
 use core::mem::replace_with;
+use ledger_tables::LedgerTables;
 use records::Unavailable;
-use sqlite::{Alter, Connection};
 use std::alloc::Global;
 use std::convert::Infallible;
 
 /// Does the work of a round, and commits all of it or nothing.
-pub fn in_round<S: Alter, W: RoundWork + Drop>(
+pub fn in_round<T: LedgerTables, W: RoundWork + Drop>(
     alloc: Global,
-    conn: &mut Connection<S>,
+    tables: &mut T,
     due: &mut DueSets,
     work: W,
 ) -> Result<W::Output, Unavailable>
-    requires { IsServing due.old (state S.Store conn.old) }
-    ensures run { Live (state S.Store conn.new) → IfOk result (λ output. W.gives work
-        (tenants_in (state S.Store conn.old).now.trees) output
-        (tenants_in (state S.Store conn.new).now.trees)) }
-    ensures tables { Live (state S.Store conn.new)
-        → KeepsTables (state S.Store conn.old).now (state S.Store conn.new).now }
-    ensures serves { ServesOn Disk due.new (state S.Store conn.new) result }
-    ensures same { Live (state S.Store conn.new) → OnErr result
-        (IsSame (state S.Store conn.old) (state S.Store conn.new)) }
-    ensures survives { Survives (state S.Store conn.old) (state S.Store conn.new)
-        (IsAfterRound (W.gives work) (state S.Store conn.old).now) }
+    requires { IsServing due.old (T.state tables.old) }
+    ensures run { Live (T.state tables.new) → IfOk result (λ output. W.gives work
+        (tenants_in (T.state tables.old).now.trees) output
+        (tenants_in (T.state tables.new).now.trees)) }
+    ensures tables { Live (T.state tables.new)
+        → KeepsTables (T.state tables.old).now (T.state tables.new).now }
+    ensures serves { ServesOn Disk due.new (T.state tables.new) result }
+    ensures same { Live (T.state tables.new) → OnErr result
+        (IsSame (T.state tables.old) (T.state tables.new)) }
+    ensures survives { Survives (T.state tables.old) (T.state tables.new)
+        (IsAfterRound (W.gives work) (T.state tables.old).now) }
 {
-    match in_transaction(conn, due, WholeRound { alloc, work }) {
+    match in_transaction(tables, due, WholeRound { alloc, work }) {
         Ok(Ok(done)) => {
             // Behind the commit nothing leads back to the clocks before it.
             forget_all(due, &done.pasts);
@@ -83,35 +82,35 @@ impl<W: RoundWork + Drop> Change for WholeRound<W> {
 
     ghost refuses = { λ round sets old never. ⊥ };
 
-    fn run<S: Alter>(
+    fn run<T: LedgerTables>(
         self,
-        conn: &mut Connection<S>,
+        tables: &mut T,
         due: &mut DueSets,
     ) -> Result<Result<RoundDone<W::Output>, Infallible>, Unavailable> {
         let mut pasts = Vec::new(self.alloc);
-        let output = run_round(conn, due, &mut pasts, self.work)?;
+        let output = run_round(tables, due, &mut pasts, self.work)?;
         Ok(Ok(RoundDone { output, pasts }))
     }
 }
 
 /// Does the work in an open transaction, and keeps the clocks before each of its batches.
-fn run_round<S: Alter, W: RoundWork + Drop>(
-    conn: &mut Connection<S>,
+fn run_round<T: LedgerTables, W: RoundWork + Drop>(
+    tables: &mut T,
     due: &mut DueSets,
     pasts: &mut Vec<Past>,
     work: W,
 ) -> Result<W::Output, Unavailable>
-    requires { CanGoOn None due.old pasts.old.items (state S.Store conn.old) }
-    ensures given { Live (state S.Store conn.new) → IfOk result (λ output. W.gives work
-        (tenants_in (state S.Store conn.old).now.trees) output
-        (tenants_in (state S.Store conn.new).now.trees)) }
+    requires { CanGoOn None due.old pasts.old.items (T.state tables.old) }
+    ensures given { Live (T.state tables.new) → IfOk result (λ output. W.gives work
+        (tenants_in (T.state tables.old).now.trees) output
+        (tenants_in (T.state tables.new).now.trees)) }
     ensures goes_on { OnOk result
-        (CanGoOn None due.new pasts.new.items (state S.Store conn.new)) }
+        (CanGoOn None due.new pasts.new.items (T.state tables.new)) }
     ensures grows { GrowsSets due.old due.new }
-    ensures follows { FollowsHere (state S.Store conn.old) (state S.Store conn.new) }
+    ensures follows { FollowsHere (T.state tables.old) (T.state tables.new) }
 {
     let mut round = Round {
-        conn,
+        tables,
         due,
         failure: None,
         pasts,

@@ -4,14 +4,12 @@ ghost use Rattle.std.specs.Prelude.{◌≢◌, Err, OnOk, IsTrue};
 ghost use Rattle.records.specs.declared.unavailable.Unavailable.TheVariants.{Disk};
 ghost use Rattle.sqlite.specs.Effect.{Database};
 ghost use Rattle.sqlite.specs.State.{HasCleanDisk, Survives};
-ghost use Rattle.sqlite.specs.Held.{state};
 ghost use Rattle.ledger_sql.specs.Frames.{Live, Follows};
 ghost use Rattle.stored_ledgers.specs.Transactions.{IsReady, HasOnlyBegun, IsQuiet, IsSame, IfAnswered, UnlessMade, MayLeave};
 
 use crate::probe::{ends_open, or_disk_fault};
-use ledger_sql::stages::{begin, commit};
+use ledger_tables::LedgerTables;
 use records::Unavailable;
-use sqlite::{Alter, Connection};
 
 /// A change to a database, and to what is kept of it in memory.
 pub trait Change {
@@ -30,61 +28,61 @@ pub trait Change {
 
     /// Makes it inside a transaction. Whatever it answers, the memory still serves the database
     /// before it.
-    fn run<S: Alter>(
+    fn run<T: LedgerTables>(
         self,
-        conn: &mut Connection<S>,
+        tables: &mut T,
         memory: &mut Self::Memory,
     ) -> Result<Result<Self::Output, Self::Refusal>, Unavailable>
-        requires { HasCleanDisk (state S.Store conn.old)
-            → HasOnlyBegun (needs self memory.old) (state S.Store conn.old) }
-        ensures told { Live (state S.Store conn.new) → IfAnswered result
-            (λ output. does self memory.old (state S.Store conn.old).now output memory.new
-            (state S.Store conn.new).now)
-            (refuses self memory.old (state S.Store conn.old).now) }
-        ensures again { Live (state S.Store conn.new)
-            → needs self memory.new (state S.Store conn.old).now }
-        ensures open { HasCleanDisk (state S.Store conn.new)
-            → OnOk result (IsTrue (state S.Store conn.new).is_open) }
-        ensures follows { Follows (state S.Store conn.old) (state S.Store conn.new) };
+        requires { HasCleanDisk (T.state tables.old)
+            → HasOnlyBegun (needs self memory.old) (T.state tables.old) }
+        ensures told { Live (T.state tables.new) → IfAnswered result
+            (λ output. does self memory.old (T.state tables.old).now output memory.new
+            (T.state tables.new).now)
+            (refuses self memory.old (T.state tables.old).now) }
+        ensures again { Live (T.state tables.new)
+            → needs self memory.new (T.state tables.old).now }
+        ensures open { HasCleanDisk (T.state tables.new)
+            → OnOk result (IsTrue (T.state tables.new).is_open) }
+        ensures follows { Follows (T.state tables.old) (T.state tables.new) };
 }
 
 /// Makes a change and commits it. One that is refused or fails leaves the database as it was; only
 /// where the disk failed may the next opening find it made.
-pub fn in_transaction<S: Alter, C: Change + Drop>(
-    conn: &mut Connection<S>,
+pub fn in_transaction<T: LedgerTables, C: Change + Drop>(
+    tables: &mut T,
     memory: &mut C::Memory,
     change: C,
 ) -> Result<Result<C::Output, C::Refusal>, Unavailable>
-    requires { HasCleanDisk (state S.Store conn.old)
-        → IsReady (C.needs change memory.old) (state S.Store conn.old) }
-    ensures told { Live (state S.Store conn.new) → IfAnswered result
-        (λ output. C.does change memory.old (state S.Store conn.old).now output memory.new
-        (state S.Store conn.new).now)
-        (C.refuses change memory.old (state S.Store conn.old).now) }
-    ensures again { Live (state S.Store conn.new) → UnlessMade result
-        (C.needs change memory.new (state S.Store conn.old).now) }
-    ensures quiet { Live (state S.Store conn.new) → IsQuiet (state S.Store conn.new) }
-    ensures same { Live (state S.Store conn.new) → UnlessMade result
-        (IsSame (state S.Store conn.old) (state S.Store conn.new)) }
-    ensures open { HasCleanDisk (state S.Store conn.new) → result ≢ Err Disk
-        → IsTrue (state S.Store conn.new).is_open }
-    ensures survives { Survives (state S.Store conn.old) (state S.Store conn.new)
-        (MayLeave (C.does change memory.old (state S.Store conn.old).now)) }
+    requires { HasCleanDisk (T.state tables.old)
+        → IsReady (C.needs change memory.old) (T.state tables.old) }
+    ensures told { Live (T.state tables.new) → IfAnswered result
+        (λ output. C.does change memory.old (T.state tables.old).now output memory.new
+        (T.state tables.new).now)
+        (C.refuses change memory.old (T.state tables.old).now) }
+    ensures again { Live (T.state tables.new) → UnlessMade result
+        (C.needs change memory.new (T.state tables.old).now) }
+    ensures quiet { Live (T.state tables.new) → IsQuiet (T.state tables.new) }
+    ensures same { Live (T.state tables.new) → UnlessMade result
+        (IsSame (T.state tables.old) (T.state tables.new)) }
+    ensures open { HasCleanDisk (T.state tables.new) → result ≢ Err Disk
+        → IsTrue (T.state tables.new).is_open }
+    ensures survives { Survives (T.state tables.old) (T.state tables.new)
+        (MayLeave (C.does change memory.old (T.state tables.old).now)) }
 {
-    if let Err(why) = begin(conn) {
-        return Err(or_disk_fault(conn, why));
+    if let Err(why) = tables.begin() {
+        return Err(or_disk_fault(tables, why));
     }
-    match change.run(conn, memory) {
-        Ok(Ok(output)) => match commit(conn) {
+    match change.run(tables, memory) {
+        Ok(Ok(output)) => match tables.commit() {
             Ok(()) => Ok(Ok(output)),
-            Err(why) => Err(or_disk_fault(conn, why)),
+            Err(why) => Err(or_disk_fault(tables, why)),
         },
         Ok(Err(refusal)) => {
-            if !ends_open(conn) {
+            if !ends_open(tables) {
                 return Err(Unavailable::Disk);
             }
             Ok(Err(refusal))
         }
-        Err(why) => Err(or_disk_fault(conn, why)),
+        Err(why) => Err(or_disk_fault(tables, why)),
     }
 }

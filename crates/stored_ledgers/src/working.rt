@@ -3,7 +3,6 @@
 ghost use Rattle.std.specs.Prelude.{◌≡◌, None, IfOk, OnOk};
 ghost use Rattle.std.specs.BTreeSet.{IsSubset};
 ghost use Rattle.sqlite.specs.State.{HasCleanDisk};
-ghost use Rattle.sqlite.specs.Held.{state};
 ghost use Rattle.sqlite_trees.specs.Tree.{Trees};
 ghost use Rattle.ledger_sql.specs.Frames.{Live};
 ghost use Rattle.stored_tables.specs.InBatch.{FollowsInBatch};
@@ -15,9 +14,8 @@ ghost use Rattle.stored_ledgers.specs.Transactions.{IfAnswered};
 
 use crate::batches::{DueSets, UnknownKey};
 use chain::{Tables, Work};
-use ledger_sql::finding::find_tenant;
+use ledger_tables::LedgerTables;
 use records::Unavailable;
-use sqlite::{Alter, Connection};
 use std::collections::BTreeSet;
 use stored_tables::{Batch, TenantNumber, forget_past};
 
@@ -38,53 +36,53 @@ pub(crate) struct Worked<O> {
 /// Does the work on the tables of the tenant with this digest, if there is one, inside a
 /// transaction. What fell due by the tenant's clock is passed over, and stays in the sets: a
 /// rollback may lead back to where it was open.
-pub(crate) fn work_here<S: Alter, W: Work + Drop>(
-    conn: &mut Connection<S>,
+pub(crate) fn work_here<T: LedgerTables, W: Work + Drop>(
+    tables: &mut T,
     due: &mut DueSets,
     digest: &[u8; 32],
     work: W,
 ) -> Result<Result<Worked<W::Output>, UnknownKey>, Unavailable>
-    requires { HasCleanDisk (state S.Store conn.old)
-        → IsInRound due.old (state S.Store conn.old) }
-    ensures told { Live (state S.Store conn.new) → IfAnswered result
-        (λ worked. IsBatchTimed (W.gives work) digest.now (state S.Store conn.old).now
-        (state S.Store conn.new).now worked.output worked.past)
-        (λ unknown. (tenants_in (state S.Store conn.old).now.trees digest.now ≡ None)
-        × ((state S.Store conn.new).now ≡ (state S.Store conn.old).now)) }
-    ensures here { HasCleanDisk (state S.Store conn.new)
-        → OnOk result (IsInRound due.new (state S.Store conn.new)) }
+    requires { HasCleanDisk (T.state tables.old)
+        → IsInRound due.old (T.state tables.old) }
+    ensures told { Live (T.state tables.new) → IfAnswered result
+        (λ worked. IsBatchTimed (W.gives work) digest.now (T.state tables.old).now
+        (T.state tables.new).now worked.output worked.past)
+        (λ unknown. (tenants_in (T.state tables.old).now.trees digest.now ≡ None)
+        × ((T.state tables.new).now ≡ (T.state tables.old).now)) }
+    ensures here { HasCleanDisk (T.state tables.new)
+        → OnOk result (IsInRound due.new (T.state tables.new)) }
     ensures grows { GrowsSets due.old due.new }
-    ensures follows { FollowsHere (state S.Store conn.old) (state S.Store conn.new) }
+    ensures follows { FollowsHere (T.state tables.old) (T.state tables.new) }
 {
-    let Some(number) = find_tenant(conn, digest)? else {
+    let Some(number) = tables.find_tenant(digest)? else {
         return Ok(Err(UnknownKey));
     };
     // Every tenant has a set; one without it is a lie of the disk.
     let Some(set) = due.get_mut(&number) else {
         return Err(Unavailable::Disk);
     };
-    let worked = run_work(conn, set, TenantNumber(number), work)?;
+    let worked = run_work(tables, set, TenantNumber(number), work)?;
     Ok(Ok(worked))
 }
 
 /// Does the work on a tenant's tables.
 #[tactic(auto, unfolding(stored_tables::specs::InBatch::shown))]
-fn run_work<S: Alter, W: Work + Drop>(
-    conn: &mut Connection<S>,
+fn run_work<T: LedgerTables, W: Work + Drop>(
+    tables: &mut T,
     due: &mut BTreeSet<(u64, u128)>,
     tenant: TenantNumber,
     work: W,
 ) -> Result<Worked<W::Output>, Unavailable>
-    requires { HasCleanDisk (state S.Store conn.old)
-        → IsWorkable tenant.0 due.old (state S.Store conn.old) }
-    ensures worked { HasCleanDisk (state S.Store conn.new) → IfOk result
-        (λ worked. HasWorkedHere (W.gives work) tenant.0 due.new (state S.Store conn.old)
-        (state S.Store conn.new) worked.output worked.past) }
+    requires { HasCleanDisk (T.state tables.old)
+        → IsWorkable tenant.0 due.old (T.state tables.old) }
+    ensures worked { HasCleanDisk (T.state tables.new) → IfOk result
+        (λ worked. HasWorkedHere (W.gives work) tenant.0 due.new (T.state tables.old)
+        (T.state tables.new) worked.output worked.past) }
     ensures grows { IsSubset due_cmp due.old due.new }
-    ensures follows { FollowsInBatch tenant.0 (state S.Store conn.old) (state S.Store conn.new) }
+    ensures follows { FollowsInBatch tenant.0 (T.state tables.old) (T.state tables.new) }
 {
     let mut batch = Batch {
-        conn,
+        tables,
         due,
         tenant,
         past: 0,

@@ -1,5 +1,4 @@
 use Rattle.std.proofs.Common.{◌≡◌, Ok, Err, sym, ap, ◌∙◌}
-use Rattle.sqlite.specs.Held.{state}
 use Rattle.ledger_sql.specs.Frames.{Live}
 use Rattle.stored_ledgers.specs.Outcomes.{IsBatchTimed}
 use Rattle.stored_ledgers.specs.Resting.{CanServe}
@@ -8,10 +7,10 @@ use Rattle.stored_ledgers.proofs.ServingLemmas.{serves_after, told_made, told_re
 use Rattle.stored_ledgers.proofs.batches.in_batch.Goals as goal
 
 -- what is told of work that was done
-told : (g : _) (c : goal.After-forget g) → Live (state g.S.Store c.in_transaction.new.conn)
-    → IsBatchTimed (g.W.Work.gives c.args.work) c.args.digest.now (state g.S.Store c.args.conn.now).now
-    (state g.S.Store c.in_transaction.new.conn).now c.in-Ok-Ok.worked.output c.in-Ok-Ok.worked.past
-    × CanServe c.in_transaction.new.memory (state g.S.Store c.in_transaction.new.conn).now
+told : (g : _) (c : goal.After-forget g) → Live (g.T.LedgerTables.state c.in_transaction.new.tables)
+    → IsBatchTimed (g.W.Work.gives c.args.work) c.args.digest.now (g.T.LedgerTables.state c.args.tables.now).now
+    (g.T.LedgerTables.state c.in_transaction.new.tables).now c.in-Ok-Ok.worked.output c.in-Ok-Ok.worked.past
+    × CanServe c.in_transaction.new.memory (g.T.LedgerTables.state c.in_transaction.new.tables).now
 told g c live =
     told_made c.in_transaction.result _ _ _ (c.in-Ok-Ok.is ∙ ap Ok c.in-Ok-Ok.field-0-is)
     (c.in_transaction.ensures.told live)

@@ -1,6 +1,5 @@
 use Rattle.std.proofs.Common.{All, sym, subst, rules, arith}
 use Rattle.sqlite.specs.Effect.{Database}
-use Rattle.sqlite.specs.Held.{state}
 use Rattle.sqlite.specs.State.{HasCleanDisk}
 use Rattle.stored_ledgers.specs.Listing.{AreThose, IsTenantOf}
 use Rattle.stored_ledgers.proofs.JoinLemmas.{starts_as_ours}
@@ -9,12 +8,12 @@ use Rattle.stored_ledgers.proofs.directory.try_tenants.Goals as goal
 
 pub with_clocks-requires-clause-here : goal.with_clocks-requires-clause-here
 with_clocks-requires-clause-here g c =
-    here_still (state g.S.Store c.args.conn.now) (state g.S.Store c.directory.new.conn)
+    here_still (g.T.LedgerTables.state c.args.tables.now) (g.T.LedgerTables.state c.directory.new.self)
     c.in_ok-rows.ensures.reads.follows c.in_ok-rows.ensures.reads.same c.requires
 
 pub with_clocks-requires-clause-found : goal.with_clocks-requires-clause-found
 with_clocks-requires-clause-found g c mid =
-    let s0 = state g.S.Store c.args.conn.now in
+    let s0 = g.T.LedgerTables.state c.args.tables.now in
     let before : HasCleanDisk s0 = omega (arith, c.in_ok-rows.ensures.reads.follows.survives.clean, mid) in
     let ledgers = (c.requires before).2 in
     let reads = c.in_ok-rows.ensures.whole mid (starts_as_ours _ ledgers.schema) in
@@ -26,8 +25,8 @@ with_clocks-requires-clause-found g c mid =
 pub returns : goal.returns
 returns g c = record {
   value = λ clean.
-      let s0 = state g.S.Store c.args.conn.now in
-      let mid : HasCleanDisk (state g.S.Store c.directory.new.conn) =
+      let s0 = g.T.LedgerTables.state c.args.tables.now in
+      let mid : HasCleanDisk (g.T.LedgerTables.state c.directory.new.self) =
       omega (arith, c.in_ok-tenants.ensures.looks.follows.survives.clean, clean) in
       let before : HasCleanDisk s0 = omega (arith, c.in_ok-rows.ensures.reads.follows.survives.clean, mid) in
       let reads = c.in_ok-rows.ensures.whole mid (starts_as_ours _ (c.requires before).2.schema) in

@@ -1,6 +1,5 @@
 use Rattle.std.proofs.Common.{[], sym, subst, arith}
 use Rattle.sqlite.specs.Effect.{Database}
-use Rattle.sqlite.specs.Held.{state}
 use Rattle.sqlite.specs.State.{HasCleanDisk}
 use Rattle.stored_tables.specs.BatchLaws.{follows_itself, follows_then}
 use Rattle.stored_ledgers.specs.Listing.{AreThose, IsTenantOf, IsThat}
@@ -11,30 +10,30 @@ use Rattle.stored_ledgers.proofs.directory.with_clocks.Goals as goal
 pub loop-row-init : goal.loop-row-init
 loop-row-init g c = record {
   told = λ clean.
-      subst (AreThose (state g.S.Store c.args.conn.now).now.trees []) (sym c.new-tenants.ensures.items) tt;
-  kept = λ clean. unchanged (state g.S.Store c.args.conn.now) (c.requires.here clean).0;
-  follows = follows_itself (state g.S.Store c.args.conn.now);
+      subst (AreThose (g.T.LedgerTables.state c.args.tables.now).now.trees []) (sym c.new-tenants.ensures.items) tt;
+  kept = λ clean. unchanged (g.T.LedgerTables.state c.args.tables.now) (c.requires.here clean).0;
+  follows = follows_itself (g.T.LedgerTables.state c.args.tables.now);
 }
 
 pub with_clock-requires-clause-here : goal.with_clock-requires-clause-here
 with_clock-requires-clause-here g c =
-    here_still (state g.S.Store c.args.conn.now) (state g.S.Store c.loop-row.conn)
+    here_still (g.T.LedgerTables.state c.args.tables.now) (g.T.LedgerTables.state c.loop-row.tables)
     c.loop-row.invariant.follows c.loop-row.invariant.kept c.requires.here
 
 pub with_clock-requires-clause-found : goal.with_clock-requires-clause-found
 with_clock-requires-clause-found g c clean =
-    let before : HasCleanDisk (state g.S.Store c.args.conn.now) =
+    let before : HasCleanDisk (g.T.LedgerTables.state c.args.tables.now) =
     omega (arith, c.loop-row.invariant.follows.survives.clean, clean) in
     subst (λ (db : Database). IsTenantOf db.trees c.row-item.result)
     (sym (c.loop-row.invariant.kept clean).0.now_is)
-    (subst (IsTenantOf (state g.S.Store c.args.conn.now).now.trees) (sym c.row-item.is)
+    (subst (IsTenantOf (g.T.LedgerTables.state c.args.tables.now).now.trees) (sym c.row-item.is)
     (c.requires.found before c.loop-row.row-index c.row-item.result c.loop-row-test.true))
 
 pub loop-row-preserved : goal.loop-row-preserved
 loop-row-preserved g c =
-    let s0 = state g.S.Store c.args.conn.now in
-    let s1 = state g.S.Store c.loop-row.conn in
-    let s2 = state g.S.Store c.with_clock.new.conn in
+    let s0 = g.T.LedgerTables.state c.args.tables.now in
+    let s1 = g.T.LedgerTables.state c.loop-row.tables in
+    let s2 = g.T.LedgerTables.state c.with_clock.new.tables in
     let follows = c.with_clock.ensures.looks.follows in record {
       told = λ clean.
           let mid : HasCleanDisk s1 = omega (arith, follows.survives.clean, clean) in

@@ -1,5 +1,4 @@
 use Rattle.std.proofs.Common.{subst, rules, arith}
-use Rattle.sqlite.specs.Held.{state}
 use Rattle.sqlite.specs.State.{HasCleanDisk}
 use Rattle.stored_ledgers.specs.Directory.{IsLeastMissing, IsLeastFree}
 use Rattle.stored_ledgers.proofs.JoinLemmas.{starts_as_ours}
@@ -9,7 +8,7 @@ use Rattle.stored_ledgers.proofs.joining.free_number.Goals as goal
 pub returns : goal.returns
 returns g c = record {
   value = λ clean.
-      let old = state g.S.Store c.args.conn.now in
+      let old = g.T.LedgerTables.state c.args.tables.now in
       let before : HasCleanDisk old = omega (arith, c.in_ok-rows.ensures.reads.follows.survives.clean, clean) in
       let reads = c.in_ok-rows.ensures.whole clean (starts_as_ours _ (c.requires before).schema) in
       if_ok_or (IsLeastMissing c.as_slice.result.now) (λ number. IsLeastFree number old.now.trees)

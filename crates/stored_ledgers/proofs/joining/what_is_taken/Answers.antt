@@ -1,5 +1,4 @@
 use Rattle.std.proofs.Common.{sym, ◌∙◌, rules, arith}
-use Rattle.sqlite.specs.Held.{state}
 use Rattle.sqlite.specs.State.{HasCleanDisk}
 use Rattle.stored_ledgers.proofs.JoinLemmas.{digest_told}
 use Rattle.stored_ledgers.proofs.JudgedLemmas.{was_found}
@@ -19,12 +18,12 @@ returns-then-is_some g c = record {
 pub returns : goal.returns
 returns g c = record {
   value = λ clean.
-      let mid : HasCleanDisk (state g.S.Store c.find_tenant_by_name.new.conn) =
+      let mid : HasCleanDisk (g.T.LedgerTables.state c.find_tenant_by_name.new.self) =
       omega (arith, c.in_ok-find_tenant.ensures.reads.follows.survives.clean, clean) in
       let seen = found_unnamed c.args.name.now _ _ _ _ _ _ c.as_str.ensures.same c.is_some.ensures
       c.if-is_some.false c.in_ok-find_tenant_by_name.ensures c.requires mid in
       let picks = c.in_ok-find_tenant.ensures.ok clean in
-      digest_told c.args.name.now c.args.digest.now (state g.S.Store c.args.conn.now).now.trees _ _ seen.2
+      digest_told c.args.name.now c.args.digest.now (g.T.LedgerTables.state c.args.tables.now).now.trees _ _ seen.2
       (λ there. found_taken c.args.digest.now _ _ _ seen.0 picks seen.1.schema (sym c.is_some-2.ensures ∙ there))
       (λ none. found_free c.args.digest.now _ _ _ seen.0 picks seen.1.schema (sym c.is_some-2.ensures ∙ none))
       c.then_some.ensures;

@@ -1,5 +1,4 @@
 use Rattle.std.proofs.Common.{◌≡◌, Ok, ap, sym, subst, ◌∙◌}
-use Rattle.sqlite.specs.Held.{state}
 use Rattle.stored_ledgers.specs.Outcomes.{ArePast}
 use Rattle.stored_ledgers.proofs.OutcomeLemmas.{keeps_tables}
 use Rattle.stored_ledgers.proofs.RoundLemmas.{after_round}
@@ -23,7 +22,7 @@ returns-in-Ok-Ok-clause-serves g c = record {
   resting = λ live.
       let is : c.in_transaction.result ≡ Ok (Ok c.in-Ok-Ok.done) =
       c.in-Ok-Ok.is ∙ ap Ok c.in-Ok-Ok.field-0-is in
-      let new = state g.S.Store c.in_transaction.new.conn in
+      let new = g.T.LedgerTables.state c.in_transaction.new.tables in
       let told = told_made c.in_transaction.result _ _ _ is (c.in_transaction.ensures.told live) in record {
         quiet = c.in_transaction.ensures.quiet live;
         ledgers = told.1.ledgers;

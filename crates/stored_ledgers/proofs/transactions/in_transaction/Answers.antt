@@ -1,5 +1,4 @@
 use Rattle.std.proofs.Common.{rules, arith}
-use Rattle.sqlite.specs.Held.{state}
 use Rattle.sqlite.specs.State.{HasCleanDisk}
 use Rattle.sqlite.proofs.StateLemmas.{survives_then}
 use Rattle.stored_ledgers.proofs.transactions.in_transaction.Goals as goal
@@ -7,11 +6,11 @@ use Rattle.stored_ledgers.proofs.transactions.in_transaction.Goals as goal
 -- the disk failed in the commit, so all of it may be found
 pub returns-in-Err-commit-clause-survives : goal.returns-in-Err-commit-clause-survives
 returns-in-Err-commit-clause-survives g c =
-    let old = state g.S.Store c.args.conn.now in
-    let made = state g.S.Store c.run.new.conn in
-    let failed = state g.S.Store c.commit.new.conn in
-    let new = state g.S.Store c.or_disk_fault-in-Err-commit.new.conn in
-    let before = survives_then old (state g.S.Store c.begin.new.conn) made _ _ _
+    let old = g.T.LedgerTables.state c.args.tables.now in
+    let made = g.T.LedgerTables.state c.run.new.tables in
+    let failed = g.T.LedgerTables.state c.commit.new.self in
+    let new = g.T.LedgerTables.state c.or_disk_fault-in-Err-commit.new.tables in
+    let before = survives_then old (g.T.LedgerTables.state c.begin.new.self) made _ _ _
     (λ _ trees none. none) (λ _ trees none. none) c.in_default.ensures.follows.survives
     c.in-Ok-Ok.ensures.follows.survives in
     survives_then old made new _ _ _ (λ _ trees none. absurd none) (λ _ trees left. left) before

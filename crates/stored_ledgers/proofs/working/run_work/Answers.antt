@@ -1,5 +1,4 @@
 use Rattle.std.proofs.Common.{◌≡◌, refl, rules}
-use Rattle.sqlite.specs.Held.{state}
 use Rattle.sqlite.specs.State.{HasCleanDisk}
 use Rattle.ledger_sql.specs.Frames.{Live}
 use Rattle.stored_tables.specs.BatchLaws.{live_before, calls_then_for}
@@ -8,7 +7,7 @@ use Rattle.stored_ledgers.proofs.working.run_work.Goals as goal
 
 pub clock-requires : goal.clock-requires
 clock-requires g c =
-    let old = state g.S.Store c.args.conn.now in (
+    let old = g.T.LedgerTables.state c.args.tables.now in (
       λ clean. workable_batch c.args.tenant.0 c.args.due.now old (c.requires clean),
       λ live. covers_start c.args.due.now c.args.tenant.0 old (c.requires live.0).unmarked
           (c.requires live.0).can.covered,
@@ -26,7 +25,7 @@ run-requires-clause-usable g c = (
       let before = live_before _ _ c.in_ok-clock.ensures.leaves.follows.4.calls live in
       covers_from _ _ _ _ c.in_ok-clock.clock
       (c.in_ok-clock.ensures.leaves.state live) (c.in_ok-clock.ensures.value live)
-      (shown_unmarked c.args.tenant.0 (state g.S.Store c.args.conn.now) (c.requires before.0).unmarked)
+      (shown_unmarked c.args.tenant.0 (g.T.LedgerTables.state c.args.tables.now) (c.requires before.0).unmarked)
       (c.in_ok-clock.ensures.leaves.usable.1 live),
 )
 
@@ -42,9 +41,9 @@ returns-clause-grows g c key has =
 
 pub returns-clause-worked : goal.returns-clause-worked
 returns-clause-worked g c clean =
-    let old = state g.S.Store c.args.conn.now in
-    let read = state g.S.Store c.clock.new.self.conn.now in
-    let new = state g.S.Store c.run.new.tables.conn.now in
+    let old = g.T.LedgerTables.state c.args.tables.now in
+    let read = g.T.LedgerTables.state c.clock.new.self.tables.now in
+    let new = g.T.LedgerTables.state c.run.new.tables.tables.now in
     let clean2 : HasCleanDisk new = search rules in
     let live2 : Live new = (clean2, (c.in_ok-output.ensures.over.usable.0 clean2).is_open) in
     let live1 : Live read = live_before _ _ c.run.ensures.over.follows.4.calls live2 in

@@ -4,7 +4,6 @@ use Rattle.std.specs.BTreeSet.{IsSubset}
 use Rattle.std.specs.Option.{option_copied_mut}
 use Rattle.std.specs.Ordering.{int_cmp, is_eq}
 use Rattle.std.proofs.lemmas.Int.{to_z-of_z}
-use Rattle.sqlite.specs.Held.{state}
 use Rattle.records.specs.Machine.{Machine}
 use Rattle.sqlite.specs.State.{State, HasCleanDisk, IsUnchanged}
 use Rattle.stored_tables.specs.MachineOf.{machine_of}
@@ -22,7 +21,7 @@ use Rattle.stored_ledgers.proofs.working.work_here.Goals as goal
 
 pub returns-in_default-clause-told : goal.returns-in_default-clause-told
 returns-in_default-clause-told g c live =
-    let old = state g.S.Store c.args.conn.now in
+    let old = g.T.LedgerTables.state c.args.tables.now in
     let before : HasCleanDisk old = omega (arith, c.in_ok-number.ensures.reads.follows.survives.clean, live.0) in
     let ledgers = (c.requires before).serves.ledgers in
     let found = found_number c.args.digest.now old.now.trees _ (ledgers.distinct.digests c.args.digest.now)
@@ -65,40 +64,40 @@ module _ (g : _) (c : goal.After-run_work-arg-1 g) where
       (covers_more _ _ _ grows) covered
 
   -- where it was lent, nothing had changed
-  was_looked_up : HasCleanDisk (state g.S.Store c.find_tenant.new.conn)
-      → IsUnchanged (state g.S.Store c.args.conn.now) (state g.S.Store c.find_tenant.new.conn)
-      × IsInRound c.args.due.now (state g.S.Store c.args.conn.now)
-      × (number_of c.args.digest.now (state g.S.Store c.args.conn.now).now.trees ≡ Some number)
+  was_looked_up : HasCleanDisk (g.T.LedgerTables.state c.find_tenant.new.self)
+      → IsUnchanged (g.T.LedgerTables.state c.args.tables.now) (g.T.LedgerTables.state c.find_tenant.new.self)
+      × IsInRound c.args.due.now (g.T.LedgerTables.state c.args.tables.now)
+      × (number_of c.args.digest.now (g.T.LedgerTables.state c.args.tables.now).now.trees ≡ Some number)
   was_looked_up clean =
-      let before : HasCleanDisk (state g.S.Store c.args.conn.now) =
+      let before : HasCleanDisk (g.T.LedgerTables.state c.args.tables.now) =
       omega (arith, c.in_ok-number.ensures.reads.follows.survives.clean, clean) in
       let round = c.requires before in (
         c.in_ok-number.ensures.reads.same clean,
         round,
-        found_after c.args.digest.now (state g.S.Store c.args.conn.now).now _ c.in-Some.number round.serves.ledgers
+        found_after c.args.digest.now (g.T.LedgerTables.state c.args.tables.now).now _ c.in-Some.number round.serves.ledgers
             (c.in_ok-number.ensures.ok clean round.serves.ledgers.schema) c.in-Some.is fits,
       )
 
   worked_so : {O : Type 0} (gives : Machine → O → Machine → Type 0) (set : DueSet) (new : State) (output : O)
-      (past : Past) → HasCleanDisk (state g.S.Store c.find_tenant.new.conn)
-      → HasWorkedHere gives number set (state g.S.Store c.find_tenant.new.conn) new output past
-      → IsBatchTimed gives c.args.digest.now (state g.S.Store c.args.conn.now).now new.now output past
+      (past : Past) → HasCleanDisk (g.T.LedgerTables.state c.find_tenant.new.self)
+      → HasWorkedHere gives number set (g.T.LedgerTables.state c.find_tenant.new.self) new output past
+      → IsBatchTimed gives c.args.digest.now (g.T.LedgerTables.state c.args.tables.now).now new.now output past
       × IsInRound (sets set) new
   worked_so gives set new output past clean here =
       let seen = was_looked_up clean in
       work_done c.args.due.now (sets set) number set (found set) (others set) gives c.args.digest.now
-      (state g.S.Store c.args.conn.now) (state g.S.Store c.find_tenant.new.conn) new seen.0.0.now_is
+      (g.T.LedgerTables.state c.args.tables.now) (g.T.LedgerTables.state c.find_tenant.new.self) new seen.0.0.now_is
       seen.1.serves seen.2 output past here
 
 pub run_work-requires : goal.run_work-requires
 run_work-requires g c clean =
     let seen = was_looked_up g c clean in
-    let round = still_in_round c.args.due.now (state g.S.Store c.args.conn.now) _ seen.0 seen.1 in record {
+    let round = still_in_round c.args.due.now (g.T.LedgerTables.state c.args.tables.now) _ seen.0 seen.1 in record {
       is_open = round.is_open;
       mode = round.mode;
       unmarked = round.unmarked;
       can = subst (CanWork (number g c) c.in-Some-get_mut.set.now) (sym seen.0.0.now_is)
-          (can_work c.args.due.now (number g c) c.in-Some-get_mut.set.now (state g.S.Store c.args.conn.now).now
+          (can_work c.args.due.now (number g c) c.in-Some-get_mut.set.now (g.T.LedgerTables.state c.args.tables.now).now
           seen.1.serves (c.args.digest.now, seen.2) (was g c));
     }
 

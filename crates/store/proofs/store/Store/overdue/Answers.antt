@@ -13,7 +13,7 @@ pub find_overdue-found-requires : goal.find_overdue-found-requires
 find_overdue-found-requires g c = reads_here g.D.Disk c.args.self.now _ c.in-Open.is (search rules) c.requires
 
 pub returns-clause-reads : goal.returns-clause-reads
-returns-clause-reads g c = reads_open g.D.Disk c.find_overdue-found.result c.is_disk_fault.result c.args.self.now _ c.in-Open.conn c.find_overdue-found.new.conn c.in-Open.is refl (search rules) refl c.is_disk_fault.ensures c.requires refl c.find_overdue-found.ensures.reads
+returns-clause-reads g c = reads_open g.D.Disk c.find_overdue-found.result c.is_disk_fault.result c.args.self.now _ c.in-Open.conn c.find_overdue-found.new.tables c.in-Open.is refl (search rules) refl c.is_disk_fault.ensures c.requires refl c.find_overdue-found.ensures.reads
 
 pub returns-clause-none : goal.returns-clause-none
 returns-clause-none g c =
@@ -22,9 +22,9 @@ returns-clause-none g c =
     let old = c.args.search.now in
     let new = c.find_overdue-found.new.search in
     told_so (FindsNone due moment old new) (λ n piece. FindsOverdue due moment old new n piece)
-    (λ n. HasCleanDisk (file_state c.find_overdue-found.new.conn)
+    (λ n. HasCleanDisk (file_state c.find_overdue-found.new.tables)
     → first_digest (with_number n (file_state c.in-Open.conn).now.trees) ≡ None)
-    (λ n. Live (file_state c.find_overdue-found.new.conn)
+    (λ n. Live (file_state c.find_overdue-found.new.tables)
     → OfDatabaseAt (λ db. first_digest (with_number n db.trees) ≡ None) c.args.self.now.place)
     (λ n missing live. subst (OfDatabaseAt (λ db. first_digest (with_number n db.trees) ≡ None))
     (sym c.in-Open.is) (missing live.0)) c.find_overdue-found.result c.find_overdue-found.ensures.none

@@ -1,25 +1,24 @@
 use Rattle.std.proofs.Common.{◌≡◌, pos, w64, to_z, of_z, subst, ◌∙◌, rules, arith}
 use Rattle.std.proofs.lemmas.Int.{to_z-of_z}
 use Rattle.sqlite.specs.Effect.{Database}
-use Rattle.sqlite.specs.Held.{state}
 use Rattle.sqlite.specs.State.{HasCleanDisk}
 use Rattle.stored_ledgers.specs.Directory.{IsLeastFree}
 use Rattle.stored_ledgers.specs.Joining.{AreTaken}
 use Rattle.stored_ledgers.proofs.JoinLemmas.{joined_rows}
-use Rattle.stored_ledgers.proofs.JoinedLemmas.{ledgers_joined, sets_joined, sets_more}
+use Rattle.stored_ledgers.proofs.JoinedLemmas.{ledgers_joined, same_entries, sets_joined, sets_more}
 use Rattle.stored_ledgers.proofs.joining.JoiningChange.run.Goals as goal
 
 pub returns-clause-told : goal.returns-clause-told
 returns-clause-told g c live =
-    let old = state g.S.Store c.args.conn.now in
-    let read = state g.S.Store c.free_number.new.conn in
-    let added = state g.S.Store c.add_tenant.new.conn in
-    let new = state g.S.Store c.add_clock.new.conn in
+    let old = g.T.LedgerTables.state c.args.tables.now in
+    let read = g.T.LedgerTables.state c.free_number.new.tables in
+    let added = g.T.LedgerTables.state c.add_tenant.new.self in
+    let new = g.T.LedgerTables.state c.add_clock.new.self in
     let clean3 : HasCleanDisk added =
     omega (arith, c.in_ok-add_clock.ensures.follows.survives.clean, live.0) in
     let clean2 : HasCleanDisk read =
     omega (arith, c.in_ok-add_tenant.ensures.follows.survives.clean, clean3) in
-    let clean1 : HasCleanDisk (state g.S.Store c.what_is_taken.new.conn) =
+    let clean1 : HasCleanDisk (g.T.LedgerTables.state c.what_is_taken.new.tables) =
     omega (arith, c.in_ok-number.ensures.looks.follows.survives.clean, clean2) in
     let clean0 : HasCleanDisk old = omega (arith, c.in_ok-taken.ensures.looks.follows.survives.clean, clean1) in
     let serves = (c.requires clean0).needs in
@@ -53,12 +52,12 @@ returns-clause-told g c live =
 
 pub returns-clause-again : goal.returns-clause-again
 returns-clause-again g c live =
-    let old = state g.S.Store c.args.conn.now in
-    let clean3 : HasCleanDisk (state g.S.Store c.add_tenant.new.conn) =
+    let old = g.T.LedgerTables.state c.args.tables.now in
+    let clean3 : HasCleanDisk (g.T.LedgerTables.state c.add_tenant.new.self) =
     omega (arith, c.in_ok-add_clock.ensures.follows.survives.clean, live.0) in
-    let clean2 : HasCleanDisk (state g.S.Store c.free_number.new.conn) =
+    let clean2 : HasCleanDisk (g.T.LedgerTables.state c.free_number.new.tables) =
     omega (arith, c.in_ok-add_tenant.ensures.follows.survives.clean, clean3) in
-    let clean1 : HasCleanDisk (state g.S.Store c.what_is_taken.new.conn) =
+    let clean1 : HasCleanDisk (g.T.LedgerTables.state c.what_is_taken.new.tables) =
     omega (arith, c.in_ok-number.ensures.looks.follows.survives.clean, clean2) in
     let clean0 : HasCleanDisk old = omega (arith, c.in_ok-taken.ensures.looks.follows.survives.clean, clean1) in
     let serves = (c.requires clean0).needs in
@@ -71,4 +70,19 @@ returns-clause-again g c live =
       ledgers = serves.ledgers;
       covered = sets_more number old.now.trees c.args.due.now c.insert.new.self least.free written.2
           serves.covered;
+    }
+
+pub returns-in_err-insert-clause-again : goal.returns-in_err-insert-clause-again
+returns-in_err-insert-clause-again g c live =
+    let old = g.T.LedgerTables.state c.args.tables.now in
+    let clean3 : HasCleanDisk (g.T.LedgerTables.state c.add_tenant.new.self) =
+    omega (arith, c.in_ok-add_clock.ensures.follows.survives.clean, live.0) in
+    let clean2 : HasCleanDisk (g.T.LedgerTables.state c.free_number.new.tables) =
+    omega (arith, c.in_ok-add_tenant.ensures.follows.survives.clean, clean3) in
+    let clean1 : HasCleanDisk (g.T.LedgerTables.state c.what_is_taken.new.tables) =
+    omega (arith, c.in_ok-number.ensures.looks.follows.survives.clean, clean2) in
+    let clean0 : HasCleanDisk old = omega (arith, c.in_ok-taken.ensures.looks.follows.survives.clean, clean1) in
+    let serves = (c.requires clean0).needs in record {
+      ledgers = serves.ledgers;
+      covered = same_entries old.now.trees c.args.due.now c.insert.new.self c.in_err-insert.ensures.err serves.covered;
     }

@@ -2,7 +2,6 @@ use Rattle.std.proofs.Common.{◌≡◌, w64, to_z, of_z, sym, subst, ◌∙◌,
 use Rattle.std.proofs.lemmas.Int.{to_z-of_z}
 use Rattle.std.proofs.lemmas.Slice.Eq.{bytes_eq-Decides}
 use Rattle.sqlite.specs.Effect.{Database}
-use Rattle.sqlite.specs.Held.{state}
 use Rattle.sqlite.specs.State.{HasCleanDisk}
 use Rattle.stored_tables.specs.BatchLaws.{follows_then}
 use Rattle.stored_ledgers.specs.Keying.{IsKeyed}
@@ -19,13 +18,13 @@ returns-then-eq-clause-told g c live =
     let seen = found_named name _ c.args.due.now _ _ _ row c.as_str.ensures.same c.in-Some.is c.in_ok-row.ensures
     c.requires live.0 in
     let same = (bytes_eq-Decides row.digest digest).0 (sym c.eq.ensures ∙ c.if-eq.true) in
-    subst (λ (db : Database). IsKeyed name digest (state g.S.Store c.args.conn.now).now db × CanServe c.args.due.now db)
+    subst (λ (db : Database). IsKeyed name digest (g.T.LedgerTables.state c.args.tables.now).now db × CanServe c.args.due.now db)
     (sym seen.0) (same_key name digest _ row.number row.digest seen.1.ledgers seen.2 same, seen.1)
 
 pub returns-then-is_some-clause-told : goal.returns-then-is_some-clause-told
 returns-then-is_some-clause-told g c live =
     let row = c.in-Some.row in
-    let clean : HasCleanDisk (state g.S.Store c.find_tenant_by_name.new.conn) =
+    let clean : HasCleanDisk (g.T.LedgerTables.state c.find_tenant_by_name.new.self) =
     omega (arith, c.in_ok-find_tenant.ensures.reads.follows.survives.clean, live.0) in
     let seen = found_named c.args.self.name.now _ c.args.due.now _ _ _ row c.as_str.ensures.same c.in-Some.is
     c.in_ok-row.ensures c.requires clean in (
@@ -45,9 +44,9 @@ returns-clause-told g c live =
     let name = c.args.self.name.now in
     let digest = c.args.self.digest.now in
     let row = c.in-Some.row in
-    let clean2 : HasCleanDisk (state g.S.Store c.find_tenant.new.conn) =
+    let clean2 : HasCleanDisk (g.T.LedgerTables.state c.find_tenant.new.self) =
     omega (arith, c.in_ok-set_digest.ensures.follows.survives.clean, live.0) in
-    let clean1 : HasCleanDisk (state g.S.Store c.find_tenant_by_name.new.conn) =
+    let clean1 : HasCleanDisk (g.T.LedgerTables.state c.find_tenant_by_name.new.self) =
     omega (arith, c.in_ok-find_tenant.ensures.reads.follows.survives.clean, clean2) in
     let seen = found_named name _ c.args.due.now _ _ _ row c.as_str.ensures.same c.in-Some.is c.in_ok-row.ensures
     c.requires clean1 in
@@ -56,8 +55,8 @@ returns-clause-told g c live =
     let none = found_free digest _ _ c.in_ok-find_tenant.field-0 seen.0 (c.in_ok-find_tenant.ensures.ok clean2)
     seen.1.ledgers.schema (sym c.is_some.ensures ∙ c.if-is_some.false) in
     let passed : to_z w64 (of_z w64 row.number) ≡ row.number = to_z-of_z w64 row.number (search rules) in
-    let keyed = new_key name digest (state g.S.Store c.args.conn.now) (state g.S.Store c.find_tenant.new.conn)
-    (state g.S.Store c.set_digest.new.conn) row.number row.digest same
+    let keyed = new_key name digest (g.T.LedgerTables.state c.args.tables.now) (g.T.LedgerTables.state c.find_tenant.new.self)
+    (g.T.LedgerTables.state c.set_digest.new.self) row.number row.digest same
     seen.1.ledgers seen.2 differs none (rw passed at (c.in_ok-set_digest.ensures.ok live.0)) in
     (keyed, serves_keyed name digest c.args.due.now _ _ seen.1 keyed)
 

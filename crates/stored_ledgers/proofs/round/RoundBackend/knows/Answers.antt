@@ -1,5 +1,4 @@
 use Rattle.std.proofs.Common.{◌∙◌, arith, rules}
-use Rattle.sqlite.specs.Held.{state}
 use Rattle.sqlite.specs.State.{HasCleanDisk}
 use Rattle.stored_ledgers.specs.DirectoryLaws.{found_number}
 use Rattle.stored_ledgers.proofs.TenantLemmas.{found_tenant}
@@ -8,7 +7,7 @@ use Rattle.stored_ledgers.proofs.round.RoundBackend.knows.Goals as goal
 pub returns-in-Ok-clause-knows : goal.returns-in-Ok-clause-knows
 returns-in-Ok-clause-knows g c = record {
   value = λ live.
-      let old = state g.S.Store c.args.self.now.conn.now in
+      let old = g.T.LedgerTables.state c.args.self.now.tables.now in
       let before : HasCleanDisk old =
       omega (arith, c.find_tenant.ensures.reads.follows.survives.clean, live.1.0) in
       let serves = (c.requires live.0 before).0.serves in
