@@ -13,7 +13,7 @@ import time
 from connection import Connection
 from drawn import Requests
 from refused import REFUSALS
-from service import PATIENCE, message, want
+from service import PATIENCE, brief, message, want
 
 
 class Writer(threading.Thread):
@@ -66,7 +66,7 @@ def told_by(house, *words, text=None):
     """What a command on the file tells that reads this text."""
     done = subprocess.run([house.program, *words, "--db", house.db], capture_output=True,
                           input=text, timeout=PATIENCE)
-    return done.returncode, done.stdout.decode(), done.stderr.decode()
+    return brief(done.returncode, done.stdout.decode(), done.stderr.decode())
 
 
 def digest_of(key):

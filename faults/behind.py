@@ -6,7 +6,8 @@ import sqlite3
 
 from copies import copy
 from runs import House
-from service import Service, run, want
+from service import Service, check, run, want
+from standby import Standby
 
 BEHIND = ("ledgerd: behind\nanswered commits are missing: put back the file and the log that were "
           "served last; to go on without them, remove FILE-sums\n")
@@ -30,14 +31,22 @@ def behind(trial):
                 want(house.take_turn(place).batch(events), "unavailable, with all at hand")
             copy(house.db, os.path.join(folder, "ledger.db"))
         end(house, turn % 2 == 0)
+        if turn % 2 == 0:
+            stands_alone(house, trial)
         for name, change in changes(house, kept):
             outcome = judge(house, trial, change)
             told.setdefault(outcome, []).append(name)
+        row_changed(house, trial)
         served_on(house)
+        hand_over(house, trial)
+        for name, put in obstacles(house):
+            obstructed(house, name, put)
         trial.progress(f"{turn + 1} ledgers")
     want(told.get("behind"), "no ledger was behind")
     counts = ", ".join(f"{len(names)} {outcome}" for outcome, names in sorted(told.items()))
-    return f"{times} ledgers, their files changed in {sum(map(len, told.values()))} ways: {counts}"
+    return (f"{times} ledgers, their files changed in {sum(map(len, told.values()))} ways: {counts}; "
+            f"{times} times handed over, and as often each of {len(list(obstacles(house)))} things in "
+            "the place of the marks")
 
 
 def end(house, stops):
@@ -180,3 +189,75 @@ def served_on(house):
     house.start()
     house.compare()
     house.stop()
+
+
+def stands_alone(house, trial):
+    """Behind a stop the file alone is the ledger: what an ordinary backup takes."""
+    alone = os.path.join(trial.inner(), "ledger.db")
+    shutil.copy(house.db, alone)
+    check(house.program, alone)
+    want(newest_in(alone) >= newest_told(house), "a stop leaves commits in the log")
+
+
+def row_changed(house, trial):
+    """A balance that a stock SQLite takes away is damage, whatever is marked."""
+    db = os.path.join(trial.inner(), "ledger.db")
+    copy(house.db, db)
+    connection = sqlite3.connect(db)
+    connection.execute("DELETE FROM balance WHERE rowid = (SELECT max(rowid) FROM balance)")
+    connection.commit()
+    connection.close()
+    status, out, err = run(house.program, "check", "--db", db)
+    want(status == 4 and out.startswith("damaged "), f"a balance taken away: {status} {out} {err}")
+
+
+def hand_over(house, trial):
+    """Who takes over marks its own replies: without the log that it wrote the file is behind."""
+    house.start()
+    other = Standby(house.program, house.db, None, ("--standby",))
+    end(house, True)
+    other.take_over()
+    house.service = other
+    for _ in range(3):
+        place, events = house.draw()
+        want(house.take_turn(place).batch(events), "unavailable behind a hand-over")
+    end(house, False)
+    db = os.path.join(trial.inner(), "ledger.db")
+    copy(house.db, db)
+    gone(db, "-wal")
+    told = run(house.program, "check", "--db", db)
+    want(told == (4, "", BEHIND), f"without the log of who has taken over: {told}")
+    check(house.program, house.db)
+
+
+def obstacles(house):
+    """What may stand in the place of the marks, and how it is put there."""
+    sums = f"{house.db}-sums"
+
+    def folder():
+        os.mkdir(sums)
+        os.mkdir(f"{sums}/inner")
+
+    yield "a folder", folder
+    yield "a link", lambda: os.symlink("nowhere", sums)
+    yield "a pipe", lambda: os.mkfifo(sums)
+    yield "nothing in it", lambda: open(sums, "wb").close()
+    yield "a file of nobody", lambda: os.close(os.open(sums, os.O_CREAT, 0))
+
+
+def obstructed(house, name, put):
+    """Batches go on, and nothing is refused; once it is away again there are marks."""
+    gone(house.db, "-sums")
+    put()
+    house.start()
+    place, events = house.draw()
+    want(house.take_turn(place).batch(events), f"unavailable beside {name}")
+    lines = [line for line in house.service.lines() if "-sums" in line]
+    want(len(lines) == (name == "a folder"), f"beside {name} standard error tells {lines}")
+    end(house, True)
+    sums = f"{house.db}-sums"
+    if os.path.isdir(sums):
+        shutil.rmtree(sums)
+        served_on(house)
+    want(last_mark(sums) >= newest_told(house), f"no marks beside {name}")
+    check(house.program, house.db)

@@ -30,6 +30,7 @@ import due
 import given
 import limits
 import little
+import lost
 import many
 import neighbours
 import parted
@@ -68,6 +69,7 @@ TRIALS = {
     "full": runs.full,
     "broken": broken.broken,
     "behind": behind.behind,
+    "lost": lost.lost,
     "in_use": use.in_use,
     "no_text": given.no_text,
     "addresses": given.addresses,

@@ -28,6 +28,8 @@ NO_DESK = "no commands while it is served: "
 # told as the second.
 UNAVAILABLE = (3, "", "ledgerd: unavailable\n")
 UNREADABLE = (4, "", "ledgerd: unreadable\n")
+# The line that says what is in a file.
+CONTENTS = re.compile(r"tenants (\d+) accounts (\d+) transfers (\d+) clock (\d+)\n")
 # The paths of batches, whose clock is their own.
 BATCHES = ("/transfers", "/accounts")
 NAME_TAKEN = (1, "", "ledgerd: name_taken\n")
@@ -44,10 +46,20 @@ def result_names():
 ACCOUNT_RESULTS, TRANSFER_RESULTS = result_names()
 
 
-def run(program, *words, env=None, timeout=PATIENCE):
+def run_whole(program, *words, env=None, timeout=PATIENCE):
     """The status, standard output and standard error of a command."""
     done = subprocess.run([program, *words], capture_output=True, env=env, timeout=timeout)
     return done.returncode, done.stdout.decode(), done.stderr.decode()
+
+
+def brief(status, out, err):
+    """What a command tells without the line on standard error that says what is in a file."""
+    return status, out, CONTENTS.sub("", err, count=1) if status == 0 else err
+
+
+def run(program, *words, env=None, timeout=PATIENCE):
+    """The same of a command, without the line that says what is in a file."""
+    return brief(*run_whole(program, *words, env=env, timeout=timeout))
 
 
 def check(program, db):
@@ -99,8 +111,9 @@ class Service:
         self.look_at_beginning(db)
 
     def look_at_beginning(self, db):
-        """What it says first, which is that it serves; or before that, that no operator can ask."""
-        if self.lines()[0].startswith(NO_DESK):
+        """What it says first, which is that it serves; or before that, that no operator can ask, or
+        that replies are not marked."""
+        if self.lines()[0].startswith(NO_DESK) or "-sums: " in self.lines()[0]:
             self.wait_for_lines(2)
         serving = f"serving {db} on 127.0.0.1:{self.port}"
         want(any(line.startswith(serving) for line in self.lines()[:2]),

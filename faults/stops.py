@@ -11,7 +11,7 @@ from asking import be_there, digest_of, listed, look_at_old_key, take_in, told_b
 from control import DISK, KILL, SENT, Control, places
 from rounds import TWENTY, Crowd, send_on, start_again
 from runs import House
-from service import PATIENCE, UNAVAILABLE, body_of, check, message, want
+from service import PATIENCE, UNAVAILABLE, body_of, brief, check, message, want
 
 STOPPED, NOT_SERVED = (0, "stopped\n", ""), (1, "", "ledgerd: not_served\n")
 # The file may be another's until the last of a process that was killed is gone.
@@ -91,7 +91,7 @@ def begun(house, *words, env=None):
 
 def heard(command):
     out, errors = command.communicate(timeout=PATIENCE)
-    return command.returncode, out.decode(), errors.decode()
+    return brief(command.returncode, out.decode(), errors.decode())
 
 
 def kill_beside(trial):

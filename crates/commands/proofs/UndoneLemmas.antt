@@ -134,6 +134,7 @@ module _ {O D : Type 0} (g : disk.Ghosts D) (written : O → Option (List ℕ)) 
         key_next = λ there none. absurd (is_key key given digest given_so hashed none);
         changed = tt;
         calm = tt;
+        brief = tt;
         made = tt;
         fault =
             subst (IsUndoneWith g image name key (IsNotMade g image change name)) (sym same)
@@ -169,6 +170,7 @@ module _ {O D : Type 0} (g : disk.Ghosts D) (written : O → Option (List ℕ)) 
         key_next = λ there no. ap (λ (f : Fault). Err f) bad;
         changed = tt;
         calm = tt;
+        brief = tt;
         made = tt;
         fault = inr (inl (bad, (given, given_so, none.1)));
       }
@@ -191,6 +193,7 @@ module _ {O D : Type 0} (g : disk.Ghosts D) (written : O → Option (List ℕ)) 
         form_last = λ period named given meant none. absurd (let e = means.form in cc);
         statement = tt;
         calm = tt;
+        brief = tt;
         fault =
             subst (IsUndoneAsked g image written name account words out) (sym same)
             (inr (inr (inr (undone_so g image (IsNotWritten g image written named id asked out) fault
@@ -216,6 +219,7 @@ module _ {O D : Type 0} (g : disk.Ghosts D) (written : O → Option (List ℕ)) 
       fault = subst (IsNotMigrated g image to) (sym same) why;
       migrated = tt;
       calm = tt;
+      brief = tt;
     }
 
     -- a ledger that was not opened, or is not brought to the version, is not migrated

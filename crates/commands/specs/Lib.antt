@@ -14,6 +14,7 @@ pub mod Desk
 pub mod PieceByPiece
 pub mod ReadBack
 pub mod Listing
+pub mod Contents
 pub mod Copying
 pub mod Settling
 pub mod Unsettled

@@ -1,6 +1,7 @@
 -- What a command has done with the ledger that it has opened, or what the service that has it has
 -- answered, and what is told of it.
-use Rattle.std.specs.Prelude.{ℕ, Bool, true, false, List, ◌++◌, map, Option, is_some, Ok}
+use Rattle.std.specs.Prelude.{◌≡◌, ℕ, Bool, true, false, List, ◌++◌, map, Option, None, Some, is_some, Ok}
+use Rattle.std.specs.String.{String, string_bytes}
 use Rattle.std.specs.Io.KnownBytes.{Appends}
 use Rattle.serde_json.specs.Written.{compact_text}
 use Rattle.sqlite_disk.specs.declared.Disk as disk
@@ -9,7 +10,9 @@ use Rattle.sqlite_wal.specs.Recovery.{Image}
 use Rattle.stored_ledgers.specs.Listing.{AreListed}
 use Rattle.stored_ledgers.specs.declared.directory.ListedTenant.{ListedTenant}
 use Rattle.store.specs.declared.store.Store.{Store}
+use Rattle.commands.specs.Contents.{contents_line}
 use Rattle.command_texts.specs.Lines.{tenants_line}
+use Rattle.commands.specs.declared.contents.Contents.{Contents}
 use Rattle.control.specs.Answers.{TellsCounts, TellsTenants}
 use Rattle.control.specs.Listing.{HasLines, rows_data}
 use Rattle.control.specs.declared.answer.Answer.{Answer}
@@ -21,6 +24,8 @@ use Rattle.commands.specs.Holding.{Becomes, ComesOf, IsFrom}
 use Rattle.commands.specs.Listing.{row_of}
 use Rattle.commands.specs.Pieces.{machine_named}
 use Rattle.admin_client.specs.declared.asked.Asked.{Asked}
+use Rattle.commands.specs.declared.ended.Held.{Held}
+use Rattle.commands.specs.declared.ended.Held.TheVariants as held
 use Rattle.commands.specs.declared.changing.TenantChange.{TenantChange}
 
 -- a body lists these tenants
@@ -39,6 +44,22 @@ pub record AreListedTold (trees : Trees) (old new : Option (List ℕ)) : Type 0 
 abbrev pub AreTenantsTold : Option (List ℕ) → Option (List ℕ) → Answer → Type 0
 AreTenantsTold old new answer =
     (lines : List ℕ) × TellsTenants lines answer × Appends old new (tenants_line ++ lines)
+
+-- the text of a line, if there is one
+abbrev pub text_of : Option String → Option (List ℕ)
+text_of None = None
+text_of (Some line) = Some (string_bytes line)
+
+-- a line says what is in a file
+abbrev pub SaysContents : Option (List ℕ) → Type 0
+SaysContents None = ⊥
+SaysContents (Some line) = (contents : Contents) × (line ≡ contents_line contents)
+
+module _ {D : Type 0} {g : disk.Ghosts D} where
+  -- of a ledger that was opened a line says what is in it, and of any other nothing does
+  abbrev pub TellsContents : Held D g → Option (List ℕ) → Type 0
+  TellsContents (held.Opened store) line = SaysContents line
+  TellsContents other line = line ≡ None
 
 -- how counts are asked for
 abbrev pub count_form : Bool → CountForm

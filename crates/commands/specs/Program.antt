@@ -31,7 +31,7 @@ use Rattle.commands.specs.Holding.{HasDamaged, HasMigrated, HasOpened, HasTold, 
 use Rattle.commands.specs.Holding.{IsBroughtTo, IsDamagedAt, IsFrom}
 use Rattle.commands.specs.Migrating.{IsVersion}
 use Rattle.commands.specs.Openings.{RefusesImage}
-use Rattle.commands.specs.OverFiles.{AreCountsTold, AreTenantsTold, count_form}
+use Rattle.commands.specs.OverFiles.{AreCountsTold, AreTenantsTold, TellsContents, count_form, text_of}
 use Rattle.commands.specs.OverFiles.{HasListed, HasMade, HasWrittenStatement, IsWrittenFrom}
 use Rattle.commands.specs.Undone.{IsNotCopied, IsNotMade, IsNotMigrated}
 use Rattle.commands.specs.Undone.{IsUnanswered, IsUndone, IsUndoneAsked, IsUndoneWith}
@@ -64,6 +64,14 @@ module _ {O D : Type 0} {g : disk.Ghosts D} where
   abbrev pub IsCalm : Ended O D g → Type 0
   IsCalm ended = (ended.is_damaged ≡ false) × (ended.made ≡ None)
 
+  -- what is in a ledger that was opened is told
+  abbrev pub SaysWhatIsIn : Ended O D g → Type 0
+  SaysWhatIsIn ended = TellsContents ended.held (text_of ended.contents)
+
+  -- it is not told
+  abbrev pub IsBrief : Ended O D g → Type 0
+  IsBrief ended = ended.contents ≡ None
+
   -- a tenant is added, or its key changed, and a line tells so
   pub record IsTenantChanged (change : TenantChange) (written : O → Option (List ℕ)) (image : Image)
       (name : List ℕ) (key : Option (List ℕ)) (out : O) (ended : Ended O D g) : Type 0 where
@@ -81,6 +89,7 @@ module _ {O D : Type 0} {g : disk.Ghosts D} where
     pub changed : IfOk result (IsTenantChanged change written image name key out)
     pub calm : IfOk result (λ ended. ended.is_damaged ≡ false)
     pub made : IfOk result (λ ended. IsMadeFor change db ended.made)
+    pub brief : IfOk result IsBrief
     pub fault : IfErr result (IsUndoneWith g image name key (IsNotMade g image change name))
 
   -- what the words ask for of an account's statement is written
@@ -109,6 +118,7 @@ module _ {O D : Type 0} {g : disk.Ghosts D} where
         → result ≡ Err BadFormat
     pub statement : IfOk result (IsStatementWritten written image name account words out)
     pub calm : IfOk result IsCalm
+    pub brief : IfOk result IsBrief
     pub fault : IfErr result (IsUndoneAsked g image written name account words out)
 
   -- a ledger was audited and is open, and a line tells that all is sound
@@ -132,6 +142,7 @@ module _ {O D : Type 0} {g : disk.Ghosts D} where
       (result : Result (Ended O D g) Fault) : Type 0 where
     pub found : IfOk result (λ ended. (ended.made ≡ None)
         × (TellsSound written image out ended ⊎ TellsDamage written image out ended))
+    pub contents : IfOk result SaysWhatIsIn
     pub fault : IfErr result (λ fault. RefusesImage g image fault ⊎ (fault ≡ Output))
 
   -- a ledger is brought to a version, and a line tells it
@@ -149,6 +160,7 @@ module _ {O D : Type 0} {g : disk.Ghosts D} where
     pub fault : IfErr result (IsNotMigrated g image to)
     pub migrated : IfOk result (IsMigratedSo written image to out)
     pub calm : IfOk result IsCalm
+    pub brief : IfOk result IsBrief
 
   -- the tenants of a ledger are listed
   pub record ListsTenants (written : O → Option (List ℕ)) (image : Image) (out : O)
@@ -157,6 +169,7 @@ module _ {O D : Type 0} {g : disk.Ghosts D} where
         HasToldOr (AreTenantsTold (written out) (written ended.out))
         (HasOpened (HasListed image (written out) (written ended.out))) ended.held)
     pub calm : IfOk result IsCalm
+    pub contents : IfOk result SaysWhatIsIn
     pub fault : IfErr result (IsUndone g image (λ fault. ⊥))
 
   -- a line tells how many bytes the copy at a path has, as it was answered, or the ledger that was
@@ -174,6 +187,7 @@ module _ {O D : Type 0} {g : disk.Ghosts D} where
       (result : Result (Ended O D g) Fault) : Type 0 where
     pub copied : IfOk result (IsCopiedSo written image to out)
     pub calm : IfOk result IsCalm
+    pub contents : IfOk result SaysWhatIsIn
     pub fault : IfErr result (IsUndone g image IsNotCopied)
 
   -- what the service has answered of itself is written
@@ -182,6 +196,7 @@ module _ {O D : Type 0} {g : disk.Ghosts D} where
     pub told : IfOk result (λ ended. HasTold
         (AreCountsTold (count_form as_metrics) (written out) (written ended.out)) ended.held)
     pub calm : IfOk result IsCalm
+    pub brief : IfOk result IsBrief
     pub fault : IfErr result IsUnanswered
 
   -- the service has answered that it has ended, and a line tells so
@@ -190,6 +205,7 @@ module _ {O D : Type 0} {g : disk.Ghosts D} where
     pub line : IfOk result (λ ended. Appends (written out) (written ended.out) stopped_line)
     pub told : IfOk result (λ ended. HasTold TellsStopped ended.held)
     pub calm : IfOk result IsCalm
+    pub brief : IfOk result IsBrief
     pub fault : IfErr result IsUnanswered
 
   -- the versions are written
@@ -197,12 +213,20 @@ module _ {O D : Type 0} {g : disk.Ghosts D} where
       (result : Result (Ended O D g) Fault) : Type 0 where
     pub lines : IfOk result (λ ended. Appends (written out) (written ended.out) version_text)
     pub calm : IfOk result IsCalm
+    pub brief : IfOk result IsBrief
     pub fault : IfErr result (λ fault. fault ≡ Output)
 
   -- nothing is done
   abbrev pub DoesNothing : O → Result (Ended O D g) Fault → Type 0
   DoesNothing out result =
-      result ≡ Ok (record { out = out; is_damaged = false; made = None; held = Nothing })
+      result
+      ≡ Ok (record {
+        out = out;
+        is_damaged = false;
+        made = None;
+        contents = None;
+        held = Nothing;
+      })
 
   -- what a command comes to, of a file and its log that hold this
   abbrev pub Performs :
@@ -251,18 +275,24 @@ TellsFileFault fault err status =
     × ((more : List ℕ) × (fault ≢ Unreadable → fault ≢ Behind → more ≡ [])
     × IsWritten err.before err.behind err.has_failed (fault_line fault ++ more))
 
--- a file that has become a new ledger is told on standard error, and else nothing
-abbrev pub IsMadeTold : Option (List ℕ) → Told → Type 0
-IsMadeTold None err = err.behind ≡ err.before
-IsMadeTold (Some path) err =
-    err.has_failed ≡ false → Appends err.before err.behind (new_ledger_line path)
+-- the line on standard error beside what a command has come to: of a new ledger, by its path, or of
+-- what is in one
+abbrev pub line_beside : Option (List ℕ) → Option (List ℕ) → Option (List ℕ)
+line_beside (Some path) contents = Some (new_ledger_line path)
+line_beside None contents = contents
+
+-- it is told there, and else nothing
+abbrev pub IsBesideTold : Option (List ℕ) → Told → Type 0
+IsBesideTold None err = err.behind ≡ err.before
+IsBesideTold (Some line) err = err.has_failed ≡ false → Appends err.before err.behind line
 
 -- what a command has come to is told: 0, or 4 where damage was, with nothing on standard error but
--- a new ledger; or its fault
+-- a new ledger, or what is in one; or its fault
 abbrev pub TellsEnded :
     {O D : Type 0} {g : disk.Ghosts D} → Result (Ended O D g) Fault → Told → ℕ → Type 0
 TellsEnded (Ok ended) err status =
-    (status ≡ (if ended.is_damaged then 4 else 0)) × IsMadeTold (text_in ended.made) err
+    (status ≡ (if ended.is_damaged then 4 else 0))
+    × IsBesideTold (line_beside (text_in ended.made) (text_of ended.contents)) err
 TellsEnded (Err fault) err status = TellsFileFault fault err status
 
 -- a refusal of the words is told, or that memory runs out for its text

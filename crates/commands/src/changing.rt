@@ -8,6 +8,7 @@ ghost use Rattle.commands.specs.Changing.{add_fault, change_line, key_fault};
 ghost use Rattle.commands.specs.Openings.{RefusesImage};
 ghost use Rattle.commands.specs.Orders.{IsChangeTried};
 
+use crate::counting::CountingAudit;
 use crate::opening::{Opened, open_file, open_or_make};
 use crate::stores::may_be_called;
 use chain::InUse;
@@ -80,7 +81,7 @@ impl TenantChange {
         match self {
             TenantChange::Adding => open_or_make(rt, db, start),
             TenantChange::Keying => Ok(Opened {
-                store: open_file(rt, db, start)?,
+                store: open_file(rt, db, start, &CountingAudit::new())?,
                 is_new: false,
             }),
         }

@@ -6,6 +6,7 @@ ghost use Rattle.commands.specs.Copying.{IsPathOf, copy_fault};
 ghost use Rattle.commands.specs.Holding.{IsFrom};
 ghost use Rattle.commands.specs.Undone.{IsNotCopied, IsUndone};
 
+use crate::counting::CountingAudit;
 use crate::opening::open_file;
 use admin_client::real_path;
 use chain::InUse;
@@ -33,19 +34,20 @@ pub(crate) fn absolute(rt: &HostRuntime, path: &str) -> Result<String, Fault>
     Ok(format!(in rt.alloc(); "{folder}/{path}")?)
 }
 
-/// Copies a file that nobody serves, behind an audit, and says how many bytes the copy has. The
+/// Copies a file that nobody serves, once it was audited, and says how many bytes the copy has. The
 /// ledger is open meanwhile, so that nobody else can have it.
 pub(crate) fn copy_file<St: Start>(
     rt: &HostRuntime,
     db: &str,
     to: &str,
     start: St,
+    audit: &CountingAudit,
 ) -> Result<(u64, InUse<Store<FileFrom<St>>>), Fault>
     ensures opened { IfOk result (λ done. IsFrom (image_at St.Start) done.1) }
     ensures fault { IfErr result
         (IsUndone ⟦<FileFrom<St> as Disk>⟧ (image_at St.Start) IsNotCopied) }
 {
-    let store = open_file(rt, db, start)?;
+    let store = open_file(rt, db, start, audit)?;
     let real = real_path(rt, db)?.ok_or(Fault::Unreadable)?;
     match copy_whole(rt, real.as_str(), to) {
         Ok(bytes) => Ok((bytes, store)),

@@ -3,10 +3,13 @@ ghost use Rattle.std.specs.Prelude.{◌≡◌, IfOk};
 ghost use Rattle.commands.specs.Desk.{IsBodyOf, order_of};
 
 use crate::copied::{Progress, begin_copy, copy_on};
+use crate::kept::Kept;
+use crate::leaving::leave_served;
 use crate::listing::listed;
 use crate::orders::{Done, Order, Orders};
 use crate::status::status_body;
 use admin_client::desk_path;
+use chain::InUse;
 use command_texts::Fault;
 use control::{
     Desk, Order as Asked, PieceAsked, added_body, changed_body, copied_body, entries_body,
@@ -17,10 +20,12 @@ use metered_disk::Meter;
 use records::{Order as InTime, Span};
 use reply_marks::Marks;
 use sockets::Watcher;
+use sqlite_disk::Disk;
 use std::alloc::Global;
 use std::os::unix::fs::MetadataExt;
 use std::time::{Clock, Duration};
 use std::{fs, io};
+use store::Store;
 
 /// How many calls that ask nothing of the store are answered in a row.
 const MOST_IN_A_ROW: u32 = 8;
@@ -125,9 +130,10 @@ impl<'a> HostDesk<'a> {
         }
     }
 
-    /// No more replies go out: their marks are let go of, before the file is.
-    pub(crate) fn end_marks(&self) {
+    /// No more replies go out: their marks are let go of, and then the file is.
+    pub(crate) fn leave<D: Disk + Drop>(&self, kept: Kept<InUse<Store<D>>>) {
         self.marks.end();
+        leave_served(self.rt, self.db, kept);
     }
 
     /// The service has ended: who asked for that is told, and the desk is gone.
@@ -313,6 +319,7 @@ impl Orders for HostDesk<'_> {
             self.open();
         }
         self.was_answering = is_answering;
+        self.marks.catch_up();
         if !self.bell.calls() {
             return None;
         }

@@ -14,6 +14,8 @@ pub(crate) struct Ended<'a, O, D: Disk + Drop> {
     pub(crate) is_damaged: bool,
     /// The file that has become a new ledger, if it has.
     pub(crate) made: Option<&'a str>,
+    /// The line that says what is in a file that was read whole.
+    pub(crate) contents: Option<String>,
     pub(crate) held: Held<D>,
 }
 

@@ -130,7 +130,7 @@ impl<'a> HostFile<'a> {
     fn tell_serving(&self) {
         self.is_told.set(true);
         let (path, address) = (self.path, self.address);
-        let tenants = self.audit.tenants();
+        let tenants = self.audit.contents().tenants;
         let noun = if tenants == 1 { "tenant" } else { "tenants" };
         let millis = self.now().saturating_sub(self.began.get()).as_millis();
         let seconds = millis / 1000;

@@ -4,6 +4,7 @@
 
 mod behind;
 mod changing;
+mod contents;
 mod copied;
 mod counting;
 mod desk;
@@ -11,6 +12,7 @@ mod ended;
 mod file_serving;
 mod kept;
 mod laws;
+mod leaving;
 mod listing;
 mod marked;
 mod opening;

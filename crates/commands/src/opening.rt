@@ -51,13 +51,13 @@ pub(crate) fn open_file<St: Start>(
     rt: &HostRuntime,
     path: &str,
     start: St,
+    audit: &CountingAudit,
 ) -> Result<InUse<Store<FileFrom<St>>>, Fault>
     ensures { MatchResult result (IsFrom (image_at St.Start))
         (RefusesImage ⟦<FileFrom<St> as Disk>⟧ (image_at St.Start)) }
 {
     let options = prepared(rt, path)?;
-    let audit = CountingAudit::new();
-    match Store::open_at(rt, path, start, options, &audit) {
+    match Store::open_at(rt, path, start, options, audit) {
         Ok(store) => {
             if is_lacking(rt, path, audit.clock()) {
                 return Err(Fault::Behind);
@@ -172,18 +172,6 @@ pub(crate) enum Audited<D: Disk + Drop> {
 
 /// Audits the ledger in a file that is there.
 pub(crate) fn examine<St: Start>(
-    rt: &HostRuntime,
-    path: &str,
-    start: St,
-) -> Result<Audited<FileFrom<St>>, Fault>
-    ensures { MatchResult result (IsFoundAs (image_at St.Start))
-        (RefusesImage ⟦<FileFrom<St> as Disk>⟧ (image_at St.Start)) }
-{
-    examine_by(rt, path, start, &CountingAudit::new())
-}
-
-// The same, by an audit that has the latest clock afterwards.
-fn examine_by<St: Start>(
     rt: &HostRuntime,
     path: &str,
     start: St,

@@ -6,13 +6,16 @@ ghost use Rattle.control.specs.Answers.{TellsCopied};
 ghost use Rattle.commands.specs.Holding.{HasOpened, HasToldOr, IsBroughtTo, IsFrom, IsNotBrought};
 ghost use Rattle.commands.specs.Migrating.{migrate_fault};
 ghost use Rattle.commands.specs.Openings.{IsOpeningFault, RefusesImage, RefusesOlder};
-ghost use Rattle.commands.specs.OverFiles.{HasWrittenStatement, IsWrittenFrom, count_form};
+ghost use Rattle.commands.specs.OverFiles.{HasWrittenStatement, IsWrittenFrom, TellsContents};
+ghost use Rattle.commands.specs.OverFiles.{count_form, text_of};
 ghost use Rattle.admin_client.specs.Served.{IsStatementServed};
 ghost use Rattle.commands.specs.Program.{AsksStatus, Checks, CopiesFile, Migrates, Stops};
 ghost use Rattle.commands.specs.Program.{WritesStatement};
 ghost use Rattle.commands.specs.Undone.{IsNotCopied, IsNotWritten, IsUndone};
 
+use crate::contents::contents_line;
 use crate::copied::{absolute, copy_file};
+use crate::counting::CountingAudit;
 use crate::ended::{Ended, Held};
 use crate::opening::{Audited, examine, open_file, open_to_migrate};
 use crate::stores::may_be_called;
@@ -45,6 +48,7 @@ pub(crate) fn run_status<O: Drain + Drop, D: Disk + Drop>(
         out,
         is_damaged: false,
         made: None,
+        contents: None,
         held: Held::Asked(answer),
     })
 }
@@ -60,7 +64,7 @@ fn count_form(as_metrics: bool) -> CountForm
     }
 }
 
-/// Copies a file, and tells how many bytes the copy has.
+/// Copies a file, and tells how many bytes the copy has, and what is in a file that nobody serves.
 pub(crate) fn run_copy<St: Start, O: Drain + Drop>(
     rt: &HostRuntime,
     db: &str,
@@ -71,35 +75,61 @@ pub(crate) fn run_copy<St: Start, O: Drain + Drop>(
     ensures { CopiesFile O.written (image_at St.Start) to.now out result }
 {
     let to = absolute(rt, to)?;
-    let (digits, held) = copy(rt, db, to.as_str(), start)?;
+    let Copied {
+        digits,
+        contents,
+        held,
+    } = copy(rt, db, to.as_str(), start)?;
     put_copied(&mut out, digits.as_str())?;
     Ok(Ended {
         out,
         is_damaged: false,
         made: None,
+        contents,
         held,
     })
 }
 
-// Has the service that has a file copy it, or copies it where nobody serves the file. Says in
-// digits how many bytes the copy has.
+// A copy that was made.
+#[derive(Drop)]
+struct Copied<D: Disk + Drop> {
+    /// How many bytes it has.
+    digits: String,
+    /// The line that says what is in it, where this command has read it.
+    contents: Option<String>,
+    held: Held<D>,
+}
+
+// Has the service that has a file copy it, or copies it where nobody serves the file.
 fn copy<St: Start>(
     rt: &HostRuntime,
     db: &str,
     to: &str,
     start: St,
-) -> Result<(String, Held<FileFrom<St>>), Fault>
-    ensures copied { IfOk result (λ done. HasToldOr (TellsCopied to.now (string_bytes done.0))
-        (HasOpened (IsFrom (image_at St.Start))) done.1) }
-    ensures number { IfOk result (λ done. (bytes : ℕ) × (string_bytes done.0 ≡ decimal bytes)) }
+) -> Result<Copied<FileFrom<St>>, Fault>
+    ensures copied { IfOk result (λ done. HasToldOr
+        (TellsCopied to.now (string_bytes done.digits))
+        (HasOpened (IsFrom (image_at St.Start))) done.held) }
+    ensures number { IfOk result (λ done.
+        (bytes : ℕ) × (string_bytes done.digits ≡ decimal bytes)) }
+    ensures contents { IfOk result (λ done. TellsContents done.held (text_of done.contents)) }
     ensures fault { IfErr result
         (IsUndone ⟦<FileFrom<St> as Disk>⟧ (image_at St.Start) IsNotCopied) }
 {
     match ask(rt, db, &Call::Copy { to })? {
-        Some(answer) => Ok((copied_in(rt.alloc(), answer.body())?, Held::Asked(answer))),
+        Some(answer) => Ok(Copied {
+            digits: copied_in(rt.alloc(), answer.body())?,
+            contents: None,
+            held: Held::Asked(answer),
+        }),
         None => {
-            let (bytes, store) = copy_file(rt, db, to, start)?;
-            Ok((format!(in rt.alloc(); "{bytes}")?, Held::Opened(store)))
+            let audit = CountingAudit::new();
+            let (bytes, store) = copy_file(rt, db, to, start, &audit)?;
+            Ok(Copied {
+                digits: format!(in rt.alloc(); "{bytes}")?,
+                contents: Some(contents_line(rt.alloc(), &audit.contents())?),
+                held: Held::Opened(store),
+            })
         }
     }
 }
@@ -119,6 +149,7 @@ pub(crate) fn run_stop<O: Drain + Drop, D: Disk + Drop>(
         out,
         is_damaged: false,
         made: None,
+        contents: None,
         held: Held::Asked(answer),
     })
 }
@@ -144,6 +175,7 @@ pub(crate) fn run_statement<St: Start, O: Drain + Drop>(
         out,
         is_damaged: false,
         made: None,
+        contents: None,
         held,
     })
 }
@@ -195,7 +227,7 @@ fn write_unserved<St: Start, O: Drain + Drop>(
         ⊎ IsNotWritten ⟦<FileFrom<St> as Disk>⟧ (image_at St.Start)
         O.written tenant.now account asked.now out fault) }
 {
-    let mut store = open_file(rt, db, start)?;
+    let mut store = open_file(rt, db, start, &CountingAudit::new())?;
     let Ok(found) = store.backend.digest_of(tenant) else {
         return Err(Fault::Unavailable);
     };
@@ -205,7 +237,7 @@ fn write_unserved<St: Start, O: Drain + Drop>(
     Ok((written?, store))
 }
 
-/// Audits a file, and tells its first damage, or that there is none.
+/// Audits a file, and tells its first damage, or that there is none and what is in it.
 pub(crate) fn run_check<St: Start, O: Drain + Drop>(
     rt: &HostRuntime,
     db: &str,
@@ -214,13 +246,16 @@ pub(crate) fn run_check<St: Start, O: Drain + Drop>(
 ) -> Result<Ended<'static, O, FileFrom<St>>, Fault>
     ensures { Checks O.written (image_at St.Start) out result }
 {
-    match examine(rt, db, start)? {
+    let audit = CountingAudit::new();
+    match examine(rt, db, start, &audit)? {
         Audited::Sound(store) => {
+            let contents = contents_line(rt.alloc(), &audit.contents())?;
             put_text(&mut out, "ok\n")?;
             Ok(Ended {
                 out,
                 is_damaged: false,
                 made: None,
+                contents: Some(contents),
                 held: Held::Opened(store),
             })
         }
@@ -230,6 +265,7 @@ pub(crate) fn run_check<St: Start, O: Drain + Drop>(
                 out,
                 is_damaged: true,
                 made: None,
+                contents: None,
                 held: Held::Damaged(files),
             })
         }
@@ -253,6 +289,7 @@ pub(crate) fn run_migrate<St: Start, O: Drain + Drop>(
         out,
         is_damaged: false,
         made: None,
+        contents: None,
         held: Held::Migrated(ledger),
     })
 }

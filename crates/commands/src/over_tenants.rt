@@ -5,11 +5,14 @@ ghost use Rattle.command_line.specs.Values.{text_in};
 ghost use Rattle.commands.specs.Changing.{IsMadeFor, TellsChange};
 ghost use Rattle.commands.specs.Holding.{HasOpened, HasToldOr};
 ghost use Rattle.commands.specs.Openings.{RefusesImage};
-ghost use Rattle.commands.specs.OverFiles.{AreTenantsTold, HasListed, HasMade};
+ghost use Rattle.commands.specs.OverFiles.{AreTenantsTold, HasListed, HasMade, TellsContents};
+ghost use Rattle.commands.specs.OverFiles.{text_of};
 ghost use Rattle.commands.specs.Program.{ChangesTenant, ListsTenants};
 ghost use Rattle.commands.specs.Undone.{IsNotMade, IsUndone};
 
 use crate::changing::TenantChange;
+use crate::contents::contents_line;
+use crate::counting::CountingAudit;
 use crate::ended::{Ended, Held};
 use crate::listing::listed;
 use crate::opening::open_file;
@@ -46,6 +49,7 @@ pub(crate) fn run_change<'a, St: Start, O: Drain + Drop>(
         out,
         is_damaged: false,
         made,
+        contents: None,
         held,
     })
 }
@@ -117,33 +121,43 @@ pub(crate) fn run_tenants<St: Start, O: Drain + Drop>(
 ) -> Result<Ended<'static, O, FileFrom<St>>, Fault>
     ensures { ListsTenants O.written (image_at St.Start) out result }
 {
-    let held = list(rt, db, start, &mut out)?;
+    let (contents, held) = list(rt, db, start, &mut out)?;
     Ok(Ended {
         out,
         is_damaged: false,
         made: None,
+        contents,
         held,
     })
 }
 
-// Lists those that the service which has a file tells, or those of a file that nobody serves.
+// Lists those that the service which has a file tells, or those of a file that nobody serves. The
+// line says what is in such a file.
 fn list<St: Start, O: Drain>(
     rt: &HostRuntime,
     db: &str,
     start: St,
     out: &mut O,
-) -> Result<Held<FileFrom<St>>, Fault>
-    ensures listed { IfOk result (HasToldOr (AreTenantsTold (O.written out.old) (O.written out.new))
-        (HasOpened (HasListed (image_at St.Start) (O.written out.old) (O.written out.new)))) }
+) -> Result<(Option<String>, Held<FileFrom<St>>), Fault>
+    ensures listed { IfOk result (λ done. HasToldOr
+        (AreTenantsTold (O.written out.old) (O.written out.new))
+        (HasOpened (HasListed (image_at St.Start) (O.written out.old) (O.written out.new)))
+        done.1) }
+    ensures contents { IfOk result (λ done. TellsContents done.1 (text_of done.0)) }
     ensures fault { IfErr result
         (IsUndone ⟦<FileFrom<St> as Disk>⟧ (image_at St.Start) (λ fault. ⊥)) }
 {
     match ask(rt, db, &Call::Tenants)? {
         Some(answer) => {
             put_listed(rt.alloc(), out, answer.body())?;
-            Ok(Held::Asked(answer))
+            Ok((None, Held::Asked(answer)))
         }
-        None => Ok(Held::Opened(list_in(rt, db, start, out)?)),
+        None => {
+            let audit = CountingAudit::new();
+            let store = list_in(rt, db, start, out, &audit)?;
+            let contents = contents_line(rt.alloc(), &audit.contents())?;
+            Ok((Some(contents), Held::Opened(store)))
+        }
     }
 }
 
@@ -152,13 +166,14 @@ fn list_in<St: Start, O: Drain>(
     db: &str,
     start: St,
     out: &mut O,
+    audit: &CountingAudit,
 ) -> Result<InUse<Store<FileFrom<St>>>, Fault>
     ensures listed { IfOk result
         (HasListed (image_at St.Start) (O.written out.old) (O.written out.new)) }
     ensures fault { IfErr result
         (IsUndone ⟦<FileFrom<St> as Disk>⟧ (image_at St.Start) (λ fault. ⊥)) }
 {
-    let mut store = open_file(rt, db, start)?;
+    let mut store = open_file(rt, db, start, audit)?;
     let Ok(tenants) = store.backend.tenants() else {
         return Err(Fault::Unavailable);
     };

@@ -29,7 +29,8 @@ pub struct EndedService<D: Disk + Drop, P, C, O> {
 }
 
 impl<D: Disk + Drop, P: Drop, C: Drop> EndedService<D, P, C, HostDesk<'_>> {
-    /// Lets go of the files, and then tells whoever asked for the end. Says why it has ended.
+    /// Writes the log back and lets go of the files, and then tells whoever asked for the end. Says
+    /// why it has ended.
     pub fn close(self) -> Served
         ensures { result ≡ self.entry.why }
     {
@@ -40,8 +41,7 @@ impl<D: Disk + Drop, P: Drop, C: Drop> EndedService<D, P, C, HostDesk<'_>> {
             moments: _moments,
             orders,
         } = self;
-        orders.end_marks();
-        drop(kept);
+        orders.leave(kept);
         orders.close();
         why
     }

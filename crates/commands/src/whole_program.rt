@@ -2,11 +2,13 @@
 ghost use Rattle.std.specs.Prelude.{map};
 ghost use Rattle.sqlite_wal.specs.Files.{image_at};
 ghost use Rattle.command_line.specs.Values.{text_in};
-ghost use Rattle.commands.specs.Program.{Performs, RunsProgram, IsMadeTold, IsRefusalTold, TellsEnded};
-ghost use Rattle.commands.specs.Program.{TellsVersion, told};
+ghost use Rattle.commands.specs.OverFiles.{text_of};
+ghost use Rattle.commands.specs.Program.{Performs, RunsProgram, IsBesideTold, IsRefusalTold, TellsEnded};
+ghost use Rattle.commands.specs.Program.{TellsVersion, line_beside, told};
 
 use crate::changing::TenantChange;
 use crate::ended::{Ended, Held};
+use crate::leaving::leave_held;
 use crate::over_files::{run_check, run_copy, run_migrate, run_statement, run_status, run_stop};
 use crate::over_tenants::{run_change, run_tenants};
 use crate::reasons::{Place, tell_file_fault};
@@ -23,7 +25,8 @@ use std::fmt::Display;
 /// status with which the program ends: 0, or that of the fault, whose line it writes to `err`; 2
 /// and `clap`'s text there, where the words are refused; 4 where `check` has told of damage on
 /// `out`. Behind the line of an `unreadable` file the system's reason may stand. A file that
-/// `tenant-add` makes a new ledger is told on `err`, and `--version` is answered on `out`. For no
+/// `tenant-add` makes a new ledger is told on `err`, and so is what `check`, `copy` and `tenants`
+/// have found in one that they read. `--version` is answered on `out`. For no
 /// words, and for `serve` and `lint`, it does nothing. `St` stands for what the file and its log
 /// hold; which one it is matters to the clauses on values alone.
 pub fn program<S: AsStr, St: Start, O: Drain + Drop, E: Drain>(
@@ -38,8 +41,14 @@ pub fn program<S: AsStr, St: Start, O: Drain + Drop, E: Drain>(
         out (told (E.written err.old) (E.written err.new) (E.failed err.new)) result }
 {
     match command(rt.alloc(), words) {
-        Ok(asked) => tell(rt, err, run(rt, asked, start, out), Place::of(asked)),
-        Err(LineFault::Version) => tell(rt, err, write_version::<O, FileFrom<St>>(out), None),
+        Ok(asked) => {
+            let ended = run(rt, asked, start, out);
+            tell(rt, err, ended, Place::of(asked), changes(asked))
+        }
+        Err(LineFault::Version) => {
+            let ended = write_version::<O, FileFrom<St>>(out);
+            tell(rt, err, ended, None, false)
+        }
         Err(LineFault::Memory) => tell_fault(err, Fault::Unavailable),
         Err(LineFault::Refused(error)) => tell_refusal(rt.alloc(), err, &error),
     }
@@ -54,33 +63,49 @@ fn write_version<O: Drain + Drop, D: Disk + Drop>(mut out: O) -> Result<Ended<'s
         out,
         is_damaged: false,
         made: None,
+        contents: None,
         held: Held::Nothing,
     })
 }
 
-// Tells a file that has become a new ledger.
-fn tell_made<E: Drain>(err: &mut E, made: Option<&str>)
-    ensures { IsMadeTold (text_in made.entry) (told (E.written err.old)
-        (E.written err.new) (E.failed err.new)) }
+// Tells a file that has become a new ledger, or what is in one that was read whole.
+fn tell_beside<E: Drain>(err: &mut E, made: Option<&str>, contents: Option<String>)
+    ensures { IsBesideTold (line_beside (text_in made.entry) (text_of contents))
+        (told (E.written err.old) (E.written err.new) (E.failed err.new)) }
 {
-    if let Some(path) = made {
-        tell_new_ledger(err, path);
+    match (made, contents) {
+        (Some(path), _) => tell_new_ledger(err, path),
+        (None, Some(line)) => {
+            let _ = put_text(err, line.as_str());
+        }
+        (None, None) => {}
     }
 }
 
-// The status of what a command has come to, whose fault is told.
+// Whether a command changes the file.
+fn changes(asked: Command<'_>) -> bool {
+    matches!(
+        asked,
+        Command::AddTenant { .. } | Command::ChangeKey { .. } | Command::Migrate { .. }
+    )
+}
+
+// The status of what a command has come to, whose fault is told. A file that it changed is let go
+// of as one.
 fn tell<O: Drop, D: Disk + Drop, E: Drain>(
     rt: &HostRuntime,
     err: &mut E,
     ended: Result<Ended<'_, O, D>, Fault>,
     place: Option<Place<'_>>,
+    changes: bool,
 ) -> u8
     ensures { TellsEnded ended.entry (told (E.written err.old)
         (E.written err.new) (E.failed err.new)) result }
 {
     match ended {
         Ok(ended) => {
-            tell_made(err, ended.made);
+            tell_beside(err, ended.made, ended.contents);
+            leave_held(rt, ended.held, changes);
             if ended.is_damaged {
                 Fault::Damaged.status()
             } else {
@@ -121,6 +146,7 @@ fn run<'a, St: Start, O: Drain + Drop>(
                 out,
                 is_damaged: false,
                 made: None,
+                contents: None,
                 held: Held::Nothing,
             })
         }

@@ -24,6 +24,12 @@ pub enum Step {
     /// Words, their status, and what they write to standard output; nothing is told on standard
     /// error.
     Tells(&'static str, u8, &'static str),
+    /// `check` finds the file sound, and says that this is in it.
+    Holds(&'static str),
+    /// Words, what they write to standard output, and what they say is in the file.
+    Says(&'static str, &'static str, &'static str),
+    /// The file's log is taken away.
+    LosesLog,
     /// Words that make the file a new ledger, and what they write to standard output.
     Makes(&'static str, &'static str),
     /// The file and its log are their owner's alone.
@@ -69,6 +75,9 @@ pub fn take_steps(rt: &HostRuntime, db: &str, steps: &[Step]) -> Result<(), Fail
 fn take_step(rt: &HostRuntime, db: &str, step: Step) -> Result<(), Fail> {
     match step {
         Step::Tells(words, status, out) => tells(rt, &line(rt, words, db)?, status, out, ""),
+        Step::Holds(contents) => says(rt, &line(rt, "check", db)?, "ok\n", contents),
+        Step::Says(words, out, contents) => says(rt, &line(rt, words, db)?, out, contents),
+        Step::LosesLog => Ok(fs::remove_file(rt, format!(in rt.alloc(); "{db}-wal")?.as_str())?),
         Step::Makes(words, out) => makes(rt, words, db, out),
         Step::IsPrivate => is_private(rt, db),
         Step::Refuses(words, status, fault) => {
@@ -104,6 +113,11 @@ pub fn tells(rt: &HostRuntime, line: &str, status: u8, out: &str, err: &str) -> 
     let mut written = Vec::new(rt.alloc());
     let (ended, told) = run_program(rt, line, Streamed::new(&mut written))?;
     expect(line, (ended, &written, &told), (status, out, err))
+}
+
+fn says(rt: &HostRuntime, line: &str, out: &str, contents: &str) -> Result<(), Fail> {
+    let told = format!(in rt.alloc(); "{contents}\n")?;
+    tells(rt, line, 0, out, &told)
 }
 
 fn makes(rt: &HostRuntime, words: &str, db: &str, out: &str) -> Result<(), Fail> {

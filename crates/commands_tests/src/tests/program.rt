@@ -1,6 +1,7 @@
 //! The program on host files.
 use super::files::Step::{
-    Changes, Fills, IsPrivate, Lacks, Makes, Marks, Posts, Refuses, Serves, Tells, Writes,
+    Changes, Fills, Holds, IsPrivate, Lacks, LosesLog, Makes, Marks, Posts, Refuses, Says, Serves,
+    Tells, Writes,
 };
 use super::files::{Step, remove, run_program, take_steps, tells};
 use super::firms::KEY;
@@ -127,13 +128,17 @@ fn refuses_words_as_clap_does(rt: HostRuntime) -> Result<(), Fail> {
     Ok(())
 }
 
-const ADDED: [Step; 6] = [
+const ADDED: [Step; 9] = [
     Makes(tenant_add!("-a", "00000000"), "added -a\n"),
     IsPrivate,
+    // The file alone is the ledger.
+    LosesLog,
     Refuses(tenant_add!("-a", "01010101"), 1, "name_taken"),
     Refuses(tenant_add!("b", "00000000"), 1, "digest_taken"),
     Refuses(tenant_add!("-a", "00000000"), 1, "name_taken"),
     Tells(tenant_add!("b", "01010101"), 0, "added b\n"),
+    LosesLog,
+    Holds("tenants 2 accounts 0 transfers 0 clock 0"),
 ];
 
 const KEYED: [Step; 10] = [
@@ -147,7 +152,7 @@ const KEYED: [Step; 10] = [
     // Nobody has the first key any more.
     Tells(tenant_add!("c", "00000000"), 0, "added c\n"),
     Refuses(tenant_key!("a", "00000000"), 1, "digest_taken"),
-    Tells("check", 0, "ok\n"),
+    Holds("tenants 3 accounts 0 transfers 0 clock 0"),
 ];
 
 const EMPTY: [Step; 7] = [
@@ -157,7 +162,7 @@ const EMPTY: [Step; 7] = [
     Refuses(tenant_key!("a", "00000000"), 4, "not_a_ledger"),
     Refuses("migrate --to=3", 4, "not_a_ledger"),
     Makes(tenant_add!("a", "00000000"), "added a\n"),
-    Tells("check", 0, "ok\n"),
+    Holds("tenants 1 accounts 0 transfers 0 clock 0"),
 ];
 
 // A database without tables, as a making that was cut short leaves one.
@@ -166,7 +171,7 @@ const BLANK: [Step; 6] = [
     Changes("DROP TABLE note"),
     Refuses("check", 4, "not_a_ledger"),
     Makes(tenant_add!("a", "00000000"), "added a\n"),
-    Tells("check", 0, "ok\n"),
+    Holds("tenants 1 accounts 0 transfers 0 clock 0"),
     Refuses(tenant_add!("a", "01010101"), 1, "name_taken"),
 ];
 
@@ -211,7 +216,7 @@ const FULL: [Step; 12] = [
 
 const WRONG: [Step; 21] = [
     Posts,
-    Tells("check", 0, "ok\n"),
+    Holds("tenants 1 accounts 4 transfers 2 clock 6"),
     Changes("UPDATE balance SET dd = dp WHERE dd <> dp"),
     Tells(
         "check",
@@ -246,7 +251,7 @@ const BEHIND: &str = concat!(
 const LACKING: [Step; 13] = [
     Posts,
     Marks(6),
-    Tells("check", 0, "ok\n"),
+    Holds("tenants 1 accounts 4 transfers 2 clock 6"),
     Marks(7),
     Refuses("check", 4, BEHIND),
     Refuses("tenants", 4, BEHIND),
@@ -256,7 +261,7 @@ const LACKING: [Step; 13] = [
     Serves(0, Some(Fault::Behind)),
     Marks(6),
     Serves(0, None),
-    Tells("check", 0, "ok\n"),
+    Holds("tenants 1 accounts 4 transfers 2 clock 6"),
 ];
 
 // A new ledger lacks nothing, whatever was marked of one that stood there before.
@@ -264,7 +269,7 @@ const REPLACED: [Step; 4] = [
     Writes(&[]),
     Marks(7),
     Makes(tenant_add!("a", "00000000"), "added a\n"),
-    Tells("check", 0, "ok\n"),
+    Holds("tenants 1 accounts 0 transfers 0 clock 0"),
 ];
 
 const NOISE: [Step; 5] = [
@@ -303,16 +308,32 @@ fn makes_nothing_at_no_path(rt: HostRuntime) -> Result<(), Fail> {
     Ok(())
 }
 
+// A tenant's digest is that of its key, 32 bytes of 0 (FIPS 180-4).
+const SAYING: [Step; 3] = [
+    Posts,
+    Says(
+        "tenants",
+        concat!(
+            "name,digest,clock\n",
+            "a,66687aadf862bd776c8fc18b8e9f8e20089714856ee233b3902a591d0d5f2925,6\n"
+        ),
+        "tenants 1 accounts 4 transfers 2 clock 6",
+    ),
+    Holds("tenants 1 accounts 4 transfers 2 clock 6"),
+];
+
 // Version 2 has the tables of version 3 but the last.
-const OLDER: [Step; 10] = [
+const OLDER: [Step; 12] = [
     Posts,
     Changes("DROP TABLE failed"),
     Changes("UPDATE schema SET version = 2"),
     Refuses("check", 4, "old_schema"),
     Refuses("migrate --to=1", 4, "newer_schema"),
     Tells("migrate --to=2", 0, "schema 2\n"),
+    LosesLog,
     Tells("migrate --to=3", 0, "schema 3\n"),
-    Tells("check", 0, "ok\n"),
+    LosesLog,
+    Holds("tenants 1 accounts 4 transfers 2 clock 6"),
     Tells("migrate --to=3", 0, "schema 3\n"),
     Refuses("migrate --to=2", 4, "newer_schema"),
 ];
@@ -325,6 +346,7 @@ fn makes_ledgers_and_writes_to_them(rt: HostRuntime) -> Result<(), Fail> {
     take_steps(&rt, "blank.db", &BLANK)?;
     take_steps(&rt, "statement.db", &STATEMENTS)?;
     take_steps(&rt, "replaced.db", &REPLACED)?;
+    take_steps(&rt, "saying.db", &SAYING)?;
     take_steps(&rt, "full.db", &FULL)
 }
 

@@ -2,7 +2,7 @@ use Rattle.std.proofs.Common.{rules}
 use Rattle.sqlite_wal.specs.Files.{image_at}
 use Rattle.commands.proofs.HeldLemmas.{damage_there}
 use Rattle.commands.proofs.OpeningLemmas.{found_at}
-use Rattle.commands.proofs.opening.examine_by.Goals as goal
+use Rattle.commands.proofs.opening.examine.Goals as goal
 
 pub returns-in-Err-Damaged-Some : goal.returns-in-Err-Damaged-Some
 returns-in-Err-Damaged-Some g c =

@@ -30,5 +30,6 @@ returns g c =
             c.as_str.ensures.value c.in_ok-digits.ensures.copied);
       };
       calm = (refl, refl);
+      contents = c.in_ok-digits.ensures.contents;
       fault = tt;
     }

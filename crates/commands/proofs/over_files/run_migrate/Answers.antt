@@ -19,6 +19,7 @@ returns g c = record {
     brought = c.in_ok-ledger.ensures.brought;
   };
   calm = (refl, refl);
+  brief = refl;
 }
 
 pub returns-in_err-ledger : goal.returns-in_err-ledger

@@ -32,6 +32,7 @@ returns g c = record {
         c.in_ok-tenant.ensures.same c.in_ok-out.ensures.written;
   };
   calm = (refl, refl);
+  brief = refl;
   fault = tt;
 }
 

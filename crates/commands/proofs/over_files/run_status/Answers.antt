@@ -22,5 +22,6 @@ returns g c =
         counted.2,
       );
       calm = (refl, refl);
+      brief = refl;
       fault = tt;
     }

@@ -12,5 +12,6 @@ returns g c = record {
     subst IsStoppedIn c.body.ensures c.in_ok-stopped_in.ensures.told,
   );
   calm = (refl, refl);
+  brief = refl;
   fault = tt;
 }

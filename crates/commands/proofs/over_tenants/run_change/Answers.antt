@@ -50,6 +50,7 @@ returns g c =
         );
       };
       calm = refl;
+      brief = refl;
       made = c.in_ok-made.ensures.made;
       fault = tt;
     }
