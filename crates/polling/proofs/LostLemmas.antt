@@ -27,14 +27,14 @@ use Rattle.polling.specs.Peers.{Doing}
 use Rattle.polling.specs.Serving.{Hall, rules, AreGiven, HasFailed, Fails}
 use Rattle.polling.specs.Serving.{events_by, events_of, AreToldUnavailable}
 use Rattle.polling.specs.Seating.{with_talk, SeatsNow, held, HoldsHall, replies_in}
-use Rattle.polling.specs.Round.{AreCopied, moments_of, AreToldLost}
+use Rattle.polling.specs.Round.{AreCopied, IsPutTo, moments_of, AreToldLost}
 use Rattle.polling.specs.declared.round.Member.{Member}
 use Rattle.polling.proofs.OneLemmas.{once, replies_both, with_talk-own, with_talk-other}
 use Rattle.polling.specs.Standing.{stands_after}
 use Rattle.polling.proofs.StandLemmas.{after_stand, owes_after, keeps_after}
 use Rattle.polling.proofs.AllLemmas.{keeps_room}
 use Rattle.polling.proofs.SeatLemmas.{keeps_at}
-use Rattle.polling.proofs.RoundLemmas.{IsPutTo, was_next}
+use Rattle.polling.proofs.RoundLemmas.{was_next}
 
 -- what was answered was done
 deed_done :
@@ -255,10 +255,10 @@ module _ {S C P : Type 0} (t : LedgersMeaning S) (gives : C → ℕ → C → Ty
             let here = record first { room = so.room } in
             let one =
             told_in t gives ledgers so.moments rest.0 peers seats_now seats_then next number talk
-            (replied_to member.size unavailable talk) (event ∷ []) here next_one.was next_one.now
-            copy.ready.may
+            (replied_to member.size next_one.goes_on unavailable talk) (event ∷ []) here
+            next_one.was next_one.now copy.ready.may
             (tells (Whole ledgers) so.moments rest.0 talk member.size copy.question message.moment
-            copy.ready rest.1 follows)
+            next_one.goes_on copy.ready next_one.going rest.1 follows)
             so.keeps in
             let deed = Replied number unavailable in
             let lives = More so.deeds so.room deed one.room so.lives one.done in

@@ -1,5 +1,5 @@
 -- Replies of a round that was kept.
-use Rattle.std.proofs.Common.{◌≡◌, ◌⊎◌, ◌+◌, inl, inr, refl, ap, sym, ◌∙◌, subst, ℕ, false, List, [], ◌∷◌}
+use Rattle.std.proofs.Common.{◌≡◌, ◌⊎◌, ◌+◌, inl, inr, refl, ap, sym, ◌∙◌, subst, ℕ, Bool, false, List, [], ◌∷◌, take}
 use Rattle.std.proofs.Common.{Option, Some, IfSome, arith, ◌<◌, ◌≤◌, length, drop, slice_index_or}
 use Rattle.std.proofs.lemmas.List.{at_drop_more, at_drop_all}
 use Rattle.chain.specs.Ledgers.{LedgersMeaning, Tenants}
@@ -9,12 +9,13 @@ use Rattle.service.specs.declared.turns.Message.{Message}
 use Rattle.service.specs.Responds.{Responds}
 use Rattle.service.specs.Seen.{Whole, Within}
 use Rattle.service.specs.Turns.{RespondsTo, RespondInTurn, TakeTurns}
+use Rattle.service.specs.Connections.{GoesOnAfter}
 use Rattle.clients.specs.Talk.{Talk}
 use Rattle.clients.specs.Within.{replied_to, Asks, after_asking, AnswersLeave, RepliesWithin}
 use Rattle.polling.specs.Peers.{Doing}
 use Rattle.polling.specs.Serving.{rules}
 use Rattle.polling.specs.Seating.{SeatsNow, held, ServesEach}
-use Rattle.polling.specs.Round.{IsCopyOf, IsNoneOf, AreCopied, moments_of, AreToBePut, ArePut}
+use Rattle.polling.specs.Round.{IsCopyOf, IsNoneOf, IsPutTo, AreCopied, moments_of, AreToBePut, ArePut}
 use Rattle.polling.specs.declared.round.Member.{Member}
 use Rattle.polling.proofs.OneLemmas.{replied}
 use Rattle.polling.proofs.AllLemmas.{then_each, none_served}
@@ -71,18 +72,15 @@ fits_here seats before member members (message ∷ left) here copied =
     (λ (seat : Option Talk). IfSome seat (λ talk. member.size ≤ length talk.unread.bytes))
     (sym first.0.1) first.0.2.ready.whole.within
 
--- the reply to the message of a client is put, whoever it is
-abbrev pub IsPutTo : Member → Reply → (ℕ → Option Talk) → (ℕ → Option Talk) → Type 0
-IsPutTo member reply seats seats_now =
-    (talk : Talk) → seats member.number ≡ Some talk
-    → SeatsNow member.number (Some (replied_to member.size reply talk)) seats seats_now
-
 -- a client was put this reply to its message, and the messages of the others are as they were
 pub record WasNext (member : Member) (members : List Member) (message : Message)
     (left : List Message) (reply : Reply) (seats seats_now : ℕ → Option Talk) : Type 0 where
   pub talk : Talk
+  pub goes_on : Bool
   pub was : seats member.number ≡ Some talk
-  pub now : SeatsNow member.number (Some (replied_to member.size reply talk)) seats seats_now
+  pub going : GoesOnAfter (take member.size talk.unread.bytes) goes_on
+  pub now :
+      SeatsNow member.number (Some (replied_to member.size goes_on reply talk)) seats seats_now
   pub copy : IsCopyOf talk member.size message.bytes.items
   pub asks : Asks message.bytes.items copy.question
   pub copied : AreCopied seats_now members left
@@ -95,16 +93,21 @@ pub was_next :
 was_next member members message left reply seats seats_now copied put =
     let talk = copied.0.0 in
     let copy = copied.0.2 in
-    let now = put talk copied.0.1 in
+    let talked = put talk copied.0.1 in
+    let goes_on = talked.1.0 in
+    let now =
+    subst (λ (talk : Talk). SeatsNow member.number (Some talk) seats seats_now) talked.1.2 talked.2 in
     record {
       talk = talk;
+      goes_on = goes_on;
       was = copied.0.1;
+      going = talked.1.1;
       now = now;
       copy = copy;
       asks = subst (λ (bytes : List ℕ). Asks bytes copy.question) (sym copy.copied) copy.ready.asks;
       copied =
-          copied_still seats seats_now member.number (Some (replied_to member.size reply talk))
-          members left now copied.1 copied.2;
+          copied_still seats seats_now member.number
+          (Some (replied_to member.size goes_on reply talk)) members left now copied.1 copied.2;
     }
 
 pub nothing_left : {X : Type 0} (xs : List X) (n : ℕ) → n ≡ length xs → n ≡ 0 → xs ≡ []
@@ -165,9 +168,10 @@ module _ {S C P : Type 0} (t : LedgersMeaning S) (gives : C → ℕ → C → Ty
   put_one_more :
       RepliesWithin t gives → (ledgers : S) (machines : Tenants) (moments moments_now : C)
       (peers : P) (seats seats_now : ℕ → Option Talk) (next : ℕ) (member : Member)
-      (message : Message) (reply : Reply) (talk : Talk)
+      (message : Message) (goes_on : Bool) (reply : Reply) (talk : Talk)
       (copy : IsCopyOf talk member.size message.bytes.items) → seats member.number ≡ Some talk →
-      SeatsNow member.number (Some (replied_to member.size reply talk)) seats seats_now →
+      GoesOnAfter (take member.size talk.unread.bytes) goes_on →
+      SeatsNow member.number (Some (replied_to member.size goes_on reply talk)) seats seats_now →
       t.follows ledgers ledgers → gives moments message.moment moments_now →
       (t.is_live ledgers →
       RespondsTo machines message reply (after_asking copy.question message.moment machines)) →
@@ -176,16 +180,16 @@ module _ {S C P : Type 0} (t : LedgersMeaning S) (gives : C → ℕ → C → Ty
       (held (Within ledgers (after_asking copy.question message.moment machines)) moments_now peers
       seats_now next) 1
   put_one_more within ledgers machines moments moments_now peers seats seats_now next member message
-      reply talk copy was now follows given responds =
+      goes_on reply talk copy was going now follows given responds =
       let r = rules t gives renews waits does in
       let before = Within ledgers machines in
       let behind = Within ledgers (after_asking copy.question message.moment machines) in
-      let talk_now = replied_to member.size reply talk in
+      let talk_now = replied_to member.size goes_on reply talk in
       served_at r member.number before behind moments moments_now peers peers seats seats_now next
       talk talk_now false 1 was now
       (replied copy.ready.may
       (within ledgers machines moments moments_now talk member.size copy.question message.moment
-      reply copy.ready given follows
+      goes_on reply copy.ready going given follows
       (λ live.
       subst
       (λ (bytes : List ℕ).
@@ -233,7 +237,8 @@ module _ {S C P : Type 0} (t : LedgersMeaning S) (gives : C → ℕ → C → Ty
                   (held (Within ledgers behind) rest.given.0 peers seats_then next) count 1
                   (count + 1) refl so.2
                   (put_one_more within ledgers mid so.1 rest.given.0 peers seats_now seats_then
-                  next member message reply one.talk one.copy one.was one.now follows rest.given.1
+                  next member message one.goes_on reply one.talk one.copy one.was one.going one.now
+                  follows rest.given.1
                   (λ live.
                   (turns_leave leave (t.tenants ledgers) mid message left reply replies_left
                   one.copy.question one.asks (rest.turns live)).0)),

@@ -8,10 +8,10 @@ use Rattle.service.specs.declared.turns.Message.{Message}
 use Rattle.service.specs.Seen.{Whole, Within}
 use Rattle.service.specs.Turns.{TakeTurns}
 use Rattle.clients.specs.Talk.{Talk}
-use Rattle.clients.specs.Within.{IsNextReady}
+use Rattle.clients.specs.Within.{IsNextReady, IsRepliedTo}
 use Rattle.polling.specs.Peers.{Doing}
 use Rattle.polling.specs.Serving.{rules, AreGiven, FailedAs, IsFoundAgain}
-use Rattle.polling.specs.Seating.{held, ServesEach}
+use Rattle.polling.specs.Seating.{SeatsNow, held, ServesEach}
 use Rattle.polling.specs.declared.round.Member.{Member}
 
 -- these bytes are a client's next message
@@ -41,6 +41,15 @@ AreCopied seats members messages = ⊥
 abbrev pub moments_of : List Message → List ℕ
 moments_of [] = []
 moments_of (message ∷ messages) = message.moment ∷ moments_of messages
+
+-- the reply to a client's message is put, and no other client is touched
+abbrev pub IsPutTo : Member → Reply → (ℕ → Option Talk) → (ℕ → Option Talk) → Type 0
+IsPutTo member reply seats seats_now =
+    (talk : Talk)
+    → seats member.number ≡ Some talk
+    → (talk_now : Talk)
+    × IsRepliedTo member.size reply talk talk_now
+    × SeatsNow member.number (Some talk_now) seats seats_now
 
 -- copies, and the moments that were given for them
 pub record AreGathered {C : Type 0} (gives : C → ℕ → C → Type 0)

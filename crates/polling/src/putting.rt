@@ -1,9 +1,7 @@
 //! Replies to the clients of a round.
-ghost use Rattle.std.specs.Prelude.{◌≡◌, ◌≤◌, Some, length, IfSome};
-ghost use Rattle.clients.specs.Talk.{Talk};
-ghost use Rattle.clients.specs.Within.{replied_to};
-ghost use Rattle.polling.specs.Round.{AreCopied, ArePut, AreToldLost};
-ghost use Rattle.polling.specs.Seating.{SeatsNow, seats_in};
+ghost use Rattle.std.specs.Prelude.{◌≤◌, length, IfSome};
+ghost use Rattle.polling.specs.Round.{AreCopied, ArePut, AreToldLost, IsPutTo};
+ghost use Rattle.polling.specs.Seating.{seats_in};
 ghost use Rattle.polling.specs.Steps.{PutsUpTo};
 
 use crate::round::{Member, Round};
@@ -18,9 +16,7 @@ use std::collections::BTreeMap;
 fn put_one(clients: &mut BTreeMap<u64, Client>, member: Member, reply: Reply)
     requires { IfSome (seats_in clients.old member.number) (λ talk.
         member.size ≤ length talk.unread.bytes) }
-    ensures { (talk : Talk) → seats_in clients.old member.number ≡ Some talk →
-        SeatsNow member.number (Some (replied_to member.size reply talk))
-        (seats_in clients.old) (seats_in clients.new) }
+    ensures { IsPutTo member reply (seats_in clients.old) (seats_in clients.new) }
 {
     match clients.get_mut(&member.number) {
         Some(client) => client.put_reply(member.size, reply),
