@@ -1,7 +1,8 @@
 -- What a command has done with the ledger that it has opened, or what the service that has it has
 -- answered, and what is told of it.
 use Rattle.std.specs.Prelude.{◌≡◌, ℕ, Bool, true, false, List, ◌++◌, map, Option, None, Some, is_some, Ok}
-use Rattle.std.specs.String.{String, string_bytes}
+use Rattle.std.specs.Prelude.{String, string_bytes}
+use Rattle.std.specs.declared.alloc.Global.{Global}
 use Rattle.std.specs.Io.KnownBytes.{Appends}
 use Rattle.serde_json.specs.Written.{compact_text}
 use Rattle.sqlite_disk.specs.declared.Disk as disk
@@ -46,7 +47,7 @@ AreTenantsTold old new answer =
     (lines : List ℕ) × TellsTenants lines answer × Appends old new (tenants_line ++ lines)
 
 -- the text of a line, if there is one
-abbrev pub text_of : Option String → Option (List ℕ)
+abbrev pub text_of : Option (String Global) → Option (List ℕ)
 text_of None = None
 text_of (Some line) = Some (string_bytes line)
 
