@@ -174,10 +174,12 @@ def clients(step):
 
 
 def examples(step):
-    """The examples that are tried over a service."""
+    """The examples that are tried over a service, and the rules of alerts where Prometheus is there."""
     for it in ("following/try_following", "trial-balance/try_trial_balance", "clients/try_beginners",
                "operating/try_signals"):
         look(f"examples/{it}.py", LEDGERD)(step)
+    if shutil.which("promtool"):
+        look("examples/operating/try_alerts.py")(step)
 
 
 def webhooks(step):
