@@ -251,7 +251,7 @@ def copy(_tenant):
         told = ledgerd("copy", "--to", f"{place}/copy.db")
         want(told[0] == 0, f"a copy in {place}: {told}")
         checked = told_by(PROGRAM, "check", "--db", f"{place}/copy.db", user=UNIT)
-        want(checked == (0, "ok\n", ""), f"the copy in {place}: {checked}")
+        want(checked[:2] == (0, "ok\n"), f"the copy in {place}: {checked}")
     add_lines()
     return "a copy is made in its folder and in one that ReadWritePaths names, and in no other"
 

@@ -8,7 +8,7 @@ PLAYED is what `play.sh` has printed, or a Markdown page with it in a block ```s
 Since clocks are those of the day, the clock that the k-th batch was told becomes `Ck`, a timestamp
 n nanoseconds before it `Ck-n`, and what is a nanosecond or a second behind it `Ck+1` or `Ck+1s`.
 The k-th key that was drawn becomes `Kk`, and its digest `Dk`. Of `status` the lengths of both files
-become `F` and `L`, what their sum is `F+L`, and what moves by itself `N`; all else stays as it is.
+become `F` and `L`, those of a copy `P`, and what moves by itself `N`; all else stays as it is.
 With `--blocks` each paragraph of the session in PAGE has to stand in the session of README.md
 beside this file."""
 
@@ -21,6 +21,7 @@ import sys
 
 HERE = pathlib.Path(__file__).resolve().parent
 MOST_EVENTS = 1000
+PAGE = 4096
 # The next page is asked for with the one, and a hold for a second is due at the other.
 BEHIND = {1: "1", 10**9: "1s"}
 # The numbers of `status` that are the machine's, and their marks.
@@ -85,16 +86,14 @@ def words_of(lines):
 
 def counts_marked(lines):
     """The lines with marks for the numbers of `status` that are the machine's, and for the bytes of
-    both files."""
-    told = {"file_bytes": 0, "log_bytes": 0}
+    a copy, which are whole pages."""
     for line in lines:
         found = re.fullmatch(r"< ([a-z_]+) (\d+)", line)
         name, number = found.groups() if found else ("", "")
         if name in COUNTS:
-            told[name] = int(number)
             line = f"< {name} {COUNTS[name]}"
-        elif name == "copied" and int(number) == told["file_bytes"] + told["log_bytes"]:
-            line = "< copied F+L"
+        elif name == "copied" and int(number) > 0 and int(number) % PAGE == 0:
+            line = "< copied P"
         yield line
 
 
