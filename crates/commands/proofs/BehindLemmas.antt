@@ -5,7 +5,7 @@ use Rattle.records.specs.Machine.{Machine}
 use Rattle.records.specs.declared.unavailable.Unavailable.{Unavailable}
 use Rattle.chain.specs.Backends.{in_use}
 use Rattle.chain.specs.Ledgers.{Tenants, KeepsAll}
-use Rattle.ledger_http.specs.declared.refusal.Refusal.{Refusal}
+use Rattle.wire.specs.declared.outcome.Outcome.{Outcome}
 use Rattle.wire.specs.declared.request.Request.{Request}
 use Rattle.service.specs.Courses.{Ending, Done, Declined, Unavailable as WasUnavailable}
 use Rattle.service.specs.Courses.{Happens, Tried}
@@ -17,7 +17,7 @@ use Rattle.store.specs.Stores.{FindsTenants, IsUsable, ReadsStore, tenants_of}
 use Rattle.store.specs.declared.store.Store.{Store}
 
 module _ {D : Type 0} {g : disk.Ghosts D} where
-  module _ {T : Type 0} (digest : List ℕ) (meaning : Result Request Refusal) (moment : ℕ)
+  module _ {T : Type 0} (digest : List ℕ) (meaning : Result Request Outcome) (moment : ℕ)
       (old mid new : Store D g) (told : Result T Unavailable) (usable : IsUsable old)
       (reads : ReadsStore old mid told)
     where

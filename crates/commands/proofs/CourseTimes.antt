@@ -8,14 +8,14 @@ use Rattle.std.specs.List.{AllByRecursion, flat_map}
 use Rattle.chain.specs.Ledgers.{Tenants}
 use Rattle.records.specs.Machine.{Machine}
 use Rattle.ledger_http.specs.declared.early.Early.{Early}
-use Rattle.ledger_http.specs.declared.refusal.Refusal.{Refusal}
 use Rattle.ledger_http.specs.Question.{Question}
 use Rattle.ledger_http.specs.ReplyText.{reply_text}
+use Rattle.wire.specs.declared.outcome.Outcome.{Outcome}
 use Rattle.wire.specs.declared.request.Request.{Request}
 use Rattle.wire.specs.declared.request.Request.TheVariants as asks
 use Rattle.sha2.specs.Sha256.{sha256}
 use Rattle.wire.specs.declared.read.Read.TheVariants as reads
-use Rattle.wire.specs.Meaning.{meaning_of}
+use Rattle.wire.specs.Asked.{meaning_in}
 use Rattle.wire.specs.Told.{outcome_text}
 use Rattle.engine.specs.Settling.{SettlesFirst}
 use Rattle.records.specs.Step.{account_rules, transfer_rules}
@@ -35,7 +35,7 @@ use Rattle.commands.proofs.InTimeLemmas.{IsInTime, InTime, in_time_on, own_in_ti
 
 -- what happened at an event is in time
 asked_at :
-    (now given moment : ℕ) (digest : List ℕ) (meaning : Result Request Refusal) (happening : Happening) →
+    (now given moment : ℕ) (digest : List ℕ) (meaning : Result Request Outcome) (happening : Happening) →
     deed_of happening ≡ Asked digest meaning moment → now ≤ given → moment ≡ given →
     IsInTime now given happening
 asked_at now given moment digest meaning happening is le at other said when asked batch =
@@ -68,7 +68,7 @@ replied_at false now given to moment (Ok question) text le at ends =
       given,
       le,
       asked_at now given moment (sha256 question.key)
-          (meaning_of question.route question.account question.body) (Told deed text) refl le at,
+          (meaning_in question) (Told deed text) refl le at,
       ends,
     )
 
@@ -83,7 +83,7 @@ untold_at true now given moment (Ok question) le at =
       given,
       le,
       asked_at now given moment (sha256 question.key)
-          (meaning_of question.route question.account question.body) (Untold deed) refl le at,
+          (meaning_in question) (Untold deed) refl le at,
       omega arith,
     )
 
@@ -308,7 +308,7 @@ pub shows_nowhere :
 shows_nowhere accounts transfers sees began now new events from to course rise may digest question
     moment reply key batch le replied available =
     let owns = own_happenings digest events in
-    let meaning = meaning_of question.route question.account question.body in
+    let meaning = meaning_in question in
     let all =
     course_in_time began now events course events ([], sym (append-nil events)) may from to rise in
     let settled =

@@ -1,7 +1,7 @@
 -- What happened to a tenant at moments that do not fall.
 use Rattle.std.proofs.Common.{◌≡◌, ◌≤◌, refl, ℕ, Bool, true, false, List, [], ◌∷◌, ◌++◌, bytes_eq, Option, Result, Ok, Err, if◌then◌else◌, arith}
 use Rattle.records.specs.Machine.{Machine}
-use Rattle.ledger_http.specs.declared.refusal.Refusal.{Refusal}
+use Rattle.wire.specs.declared.outcome.Outcome.{Outcome}
 use Rattle.wire.specs.declared.request.Request.{Request}
 use Rattle.wire.specs.declared.request.Request.TheVariants as asks
 use Rattle.engine.specs.Settling.{SettlesFirst}
@@ -15,7 +15,7 @@ use Rattle.commands.proofs.SettledLemmas.{AreSettledTo, both_later, both_settled
 -- between, and a settlement of none that is later
 abbrev pub IsInTime : ℕ → ℕ → Happening → Type 0
 IsInTime now upto happening =
-    (digest : List ℕ) (meaning : Result Request Refusal) (moment : ℕ) →
+    (digest : List ℕ) (meaning : Result Request Outcome) (moment : ℕ) →
     deed_of happening ≡ Asked digest meaning moment → is_batch meaning ≡ true →
     (moment ≤ upto) × (is_settlement happening ≡ false → now ≤ moment)
 

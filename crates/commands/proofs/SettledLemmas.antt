@@ -7,7 +7,7 @@ use Rattle.records.specs.Chains.{Rules, chains_of, after_chains}
 use Rattle.records.specs.Step.{at_clock, clock_after, first_timestamp, max_clock, step_machine, step_outcome}
 use Rattle.records.specs.Step.{account_rules, transfer_rules}
 use Rattle.engine.specs.Settling.{SettlesFirst}
-use Rattle.ledger_http.specs.declared.refusal.Refusal.{Refusal}
+use Rattle.wire.specs.declared.outcome.Outcome.{Outcome}
 use Rattle.wire.specs.declared.request.Request.{Request}
 use Rattle.wire.specs.declared.request.Request.TheVariants as asks
 use Rattle.wire.specs.declared.outcome.Outcome.TheVariants as shown
@@ -172,7 +172,7 @@ module _ {E R : Type 0} (rules : Rules E R) (settles : SettlesFirst rules) (even
 module _ (accounts : SettlesFirst account_rules) (transfers : SettlesFirst transfer_rules) where
   module _ (now upto moment : ℕ) (within : now ≤ upto) where
     left_so :
-        (meaning : Result Request Refusal) →
+        (meaning : Result Request Outcome) →
         (is_batch meaning ≡ true → (now ≤ moment) × (moment ≤ upto)) →
         (m with_them : Machine) → IsSettledTo now m with_them →
         IsSettledTo upto (served_by m meaning moment).left (served_by with_them meaning moment).left
@@ -186,7 +186,7 @@ module _ (accounts : SettlesFirst account_rules) (transfers : SettlesFirst trans
     left_so (Err refusal) in_time m other settled = one_later now upto m other within settled
 
     both_served :
-        (meaning : Result Request Refusal) →
+        (meaning : Result Request Outcome) →
         (is_batch meaning ≡ true → (now ≤ moment) × (moment ≤ upto)) →
         (tenant with_them : Option Machine) → AreSettledTo now tenant with_them →
         AreSettledTo upto (served_to tenant meaning moment).left (served_to with_them meaning moment).left
@@ -197,7 +197,7 @@ module _ (accounts : SettlesFirst account_rules) (transfers : SettlesFirst trans
 
   -- a batch in time gets the same reply
   told_so :
-      (now moment : ℕ) (meaning : Result Request Refusal) → is_batch meaning ≡ true → now ≤ moment →
+      (now moment : ℕ) (meaning : Result Request Outcome) → is_batch meaning ≡ true → now ≤ moment →
       (m with_them : Machine) → IsSettledTo now m with_them →
       (served_by with_them meaning moment).told ≡ (served_by m meaning moment).told
   told_so now moment (Ok (asks.Accounts events)) is le m other settled =
@@ -210,7 +210,7 @@ module _ (accounts : SettlesFirst account_rules) (transfers : SettlesFirst trans
   told_so now moment (Err refusal) is le m other settled = absurd (cc)
 
   pub both_told :
-      (now moment : ℕ) (meaning : Result Request Refusal) → is_batch meaning ≡ true → now ≤ moment →
+      (now moment : ℕ) (meaning : Result Request Outcome) → is_batch meaning ≡ true → now ≤ moment →
       (tenant with_them : Option Machine) → AreSettledTo now tenant with_them →
       (served_to with_them meaning moment).told ≡ (served_to tenant meaning moment).told
   both_told now moment meaning is le None None settled = refl
@@ -231,7 +231,7 @@ module _ (accounts : SettlesFirst account_rules) (transfers : SettlesFirst trans
   -- a deed in time
   pub both_done :
       (now upto : ℕ) → now ≤ upto → (deed : Deed) →
-      ((digest : List ℕ) (meaning : Result Request Refusal) (moment : ℕ) →
+      ((digest : List ℕ) (meaning : Result Request Outcome) (moment : ℕ) →
       deed ≡ Asked digest meaning moment → is_batch meaning ≡ true → (now ≤ moment) × (moment ≤ upto)) →
       (tenant with_them : Option Machine) → AreSettledTo now tenant with_them →
       AreSettledTo upto (after_deed deed tenant) (after_deed deed with_them)

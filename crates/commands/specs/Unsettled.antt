@@ -4,13 +4,13 @@ use Rattle.std.specs.Prelude.{if◌then◌else◌}
 use Rattle.std.specs.List.{AllByRecursion}
 use Rattle.sha2.specs.Sha256.{sha256}
 use Rattle.chain.specs.Ledgers.{Tenants}
-use Rattle.ledger_http.specs.declared.refusal.Refusal.{Refusal}
 use Rattle.ledger_http.specs.declared.reply.Reply.{Reply}
 use Rattle.ledger_http.specs.Question.{Question}
 use Rattle.ledger_http.specs.ReplyText.{reply_text}
+use Rattle.wire.specs.declared.outcome.Outcome.{Outcome}
 use Rattle.wire.specs.declared.request.Request.{Request}
 use Rattle.wire.specs.declared.request.Request.TheVariants.{Accounts, Transfers, Read}
-use Rattle.wire.specs.Meaning.{meaning_of}
+use Rattle.wire.specs.Asked.{meaning_in}
 use Rattle.wire.specs.Told.{outcome_text}
 use Rattle.service.specs.Attending.{IsAskedOrOfService}
 use Rattle.service.specs.Courses.{Event, Course, IsReplied}
@@ -21,13 +21,13 @@ use Rattle.service.specs.Rising.{Rise}
 use Rattle.service.specs.Served.{served}
 
 -- whether a request is a batch, and whether it is one of no transfers
-abbrev pub is_batch : Result Request Refusal → Bool
+abbrev pub is_batch : Result Request Outcome → Bool
 is_batch (Ok (Accounts events)) = true
 is_batch (Ok (Transfers events)) = true
 is_batch (Ok (Read asked)) = false
 is_batch (Err refusal) = false
 
-abbrev pub is_empty_batch : Result Request Refusal → Bool
+abbrev pub is_empty_batch : Result Request Outcome → Bool
 is_empty_batch (Ok (Accounts events)) = false
 is_empty_batch (Ok (Transfers [])) = true
 is_empty_batch (Ok (Transfers (event ∷ events))) = false
@@ -59,11 +59,11 @@ SettlingShowsNowhere =
     → AllByRecursion IsAskedOrOfService events
     → (digest : List ℕ) (question : Question) (moment : ℕ) (reply : Reply)
     → sha256 question.key ≡ digest_since digest events
-    → is_batch (meaning_of question.route question.account question.body) ≡ true
+    → is_batch (meaning_in question) ≡ true
     → to ≤ moment
     → IsReplied (Ok question) moment reply now new
     → reply ≢ unavailable
     → reply_text reply
     ≡ outcome_text
     (served (after_all (began digest) (without_settlements (own_happenings digest events)))
-    question.route question.account question.body moment).told
+    question moment).told

@@ -6,11 +6,11 @@ use Rattle.std.proofs.lemmas.Slice.Eq.{bytes_eq-Decides}
 use Rattle.records.specs.Machine.{Machine}
 use Rattle.chain.specs.Ledgers.{Tenants}
 use Rattle.ledger_http.specs.declared.early.Early.{Early}
-use Rattle.ledger_http.specs.declared.refusal.Refusal.{Refusal}
 use Rattle.ledger_http.specs.declared.reply.Reply.{Reply}
 use Rattle.ledger_http.specs.Question.{Question, asked_of}
+use Rattle.wire.specs.declared.outcome.Outcome.{Outcome}
 use Rattle.wire.specs.declared.request.Request.{Request}
-use Rattle.wire.specs.Meaning.{meaning_of}
+use Rattle.wire.specs.Asked.{meaning_in}
 use Rattle.service.specs.declared.turns.Message.{Message}
 use Rattle.service.specs.Courses.{is_unavailable}
 use Rattle.service.specs.EventLaws.{told_available, told_unavailable}
@@ -24,7 +24,7 @@ abbrev pub SameStay : Tenants → Tenants → Type 0
 SameStay old new = (digest : List ℕ) → is_some (new digest) ≡ is_some (old digest)
 
 served_stays :
-    (tenant : Option Machine) (meaning : Result Request Refusal) (moment : ℕ) →
+    (tenant : Option Machine) (meaning : Result Request Outcome) (moment : ℕ) →
     is_some (served_to tenant meaning moment).left ≡ is_some tenant
 served_stays None meaning moment = refl
 served_stays (Some m) meaning moment = refl
@@ -48,7 +48,7 @@ answered_stay :
     AnswersAsked old new asked moment text → SameStay old new
 answered_stay old new (Ok question) moment text answers digest =
     by_caller old new _ _ text answers
-    (λ tenant. served_stays tenant (meaning_of question.route question.account question.body) moment)
+    (λ tenant. served_stays tenant (meaning_in question) moment)
     digest (bytes_eq digest _) refl
 answered_stay old new (Err early) moment text answers digest = ap is_some (answers.same digest)
 
