@@ -13,6 +13,23 @@ pub(crate) const BATCH: &str = concat!(
     "\r\ncontent-length: 2\r\n\r\n[]"
 );
 
+/// The same as the last message of its connection, and behind it another one that nobody answers.
+pub(crate) const LAST_AND_ONE_MORE: &str = concat!(
+    "POST /transfers HTTP/1.1\r\nConnection: keep-alive, Close\r\nx-ledger-key: ",
+    "0000000000000000000000000000000000000000000000000000000000000000",
+    "\r\ncontent-length: 2\r\n\r\n[]",
+    "POST /accounts HTTP/1.1\r\nx-ledger-key: ",
+    "0000000000000000000000000000000000000000000000000000000000000000",
+    "\r\ncontent-length: 34\r\n\r\n",
+    "[{\"id\":\"1\",\"ledger\":7,\"code\":1}]"
+);
+
+/// The reply to the one that is answered.
+pub(crate) const TO_LAST: &str = concat!(
+    "HTTP/1.1 200 OK\r\ncontent-length: 29\r\ncontent-type: application/json\r\n\r\n",
+    "{\"clock\":\"1000\",\"results\":[]}"
+);
+
 /// The first line of a statement.
 pub(crate) const HEADER: &str = concat!(
     "timestamp,transfer_id,side,kind,amount,",

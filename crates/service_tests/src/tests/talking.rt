@@ -3,7 +3,8 @@
 use crate::tests::booked::{transfers, with_statement};
 use crate::tests::firms::Firms;
 use crate::tests::messages::{
-    ANNOUNCED, FIRST, OF_FIRST, OF_SECOND, SECOND, TO_SECOND, UNAVAILABLE,
+    ANNOUNCED, FIRST, LAST_AND_ONE_MORE, OF_FIRST, OF_SECOND, SECOND, TO_LAST, TO_SECOND,
+    UNAVAILABLE,
 };
 use clients::{Answered, Client};
 use std::alloc::{AllocError, Global};
@@ -149,6 +150,31 @@ fn answers_nothing_before_the_reply_is_written(rt: HostRuntime) -> Result<(), Fa
     let (wanting, over) = (Some(Answered::Wanting), Some(Answered::Over));
     assert!(rt; answers == [wanting, replied, None, replied, replied, over]);
     assert!(rt; talker.client.goes_on());
+    Ok(())
+}
+
+// Whether a client that sends and hears in pieces is answered one message, and then none.
+fn hears_the_last_alone(alloc: Global, piece: usize, most: usize) -> Result<bool, Fail> {
+    let mut firms = Firms::with(alloc, &[FIRST])?;
+    let mut talker = Talker::new(alloc, LAST_AND_ONE_MORE.as_bytes());
+    for _ in 0..600 {
+        talker.send(piece)?;
+        firms.answer_client(&mut talker.client);
+        talker.hear(most)?;
+    }
+    let is_last = talker.client.is_written() && !talker.client.goes_on();
+    let is_over = firms.answer_client(&mut talker.client) == None;
+    Ok(is_last && is_over && talker.heard.as_slice() == TO_LAST.as_bytes())
+}
+
+#[test]
+fn answers_nothing_behind_a_message_that_closes(rt: HostRuntime) -> Result<(), Fail> {
+    for (piece, most) in [(1, 4096), (2, 1), (7, 3), (4096, 100)] {
+        assert!(rt; hears_the_last_alone(rt.alloc(), piece, most)?);
+    }
+    let mut firms = Firms::with(rt.alloc(), &[FIRST])?;
+    let alone = firms.serve_alone(LAST_AND_ONE_MORE.as_bytes());
+    assert!(rt; alone.as_slice() == TO_LAST.as_bytes());
     Ok(())
 }
 

@@ -87,6 +87,27 @@ const ASTRAY: &str = concat!(
     "\r\ncontent-length: 0\r\n\r\n"
 );
 
+/// The same, and a batch, each as the last message of its connection.
+const LAST_ASTRAY: &str = concat!(
+    "POST /x HTTP/1.1\r\nconnection: close\r\nx-ledger-key: ",
+    "0000000000000000000000000000000000000000000000000000000000000000",
+    "\r\ncontent-length: 0\r\n\r\n"
+);
+
+const LAST: &str = concat!(
+    "POST /transfers HTTP/1.1\r\nx-ledger-key: ",
+    "0000000000000000000000000000000000000000000000000000000000000000",
+    "\r\nConnection: Upgrade ,\tCLOSE\r\ncontent-length: 2\r\n\r\n[]"
+);
+
+/// A statement without a key, whose headers name other options.
+const KEYLESS: &str = "GET /statement/1 HTTP/1.1\r\nconnection: keep-alive, closed\r\n\r\n";
+
+const UNKNOWN_KEY: &str = concat!(
+    "HTTP/1.1 401 Unauthorized\r\ncontent-length: 23\r\ncontent-type: application/json\r\n\r\n",
+    "{\"error\":\"unknown_key\"}"
+);
+
 /// What is sent, how many replies are asked for at most, the replies, and what is left of what was
 /// sent.
 type Connection = (
@@ -97,21 +118,26 @@ type Connection = (
 );
 
 /// A moment is asked for each message.
-static TO_THE_END: [Connection; 6] = [
+static TO_THE_END: [Connection; 9] = [
     (&[BATCH, ASTRAY], 9, &[DONE, NO_ROUTE], &[]),
     (&[BATCH, ASTRAY], 2, &[DONE, NO_ROUTE], &[]),
     (&[BATCH, ASTRAY], 1, &[DONE], &[ASTRAY]),
     (&[BATCH, ASTRAY], 0, &[], &[BATCH, ASTRAY]),
     (&[BATCH, BATCH], 9, &[DONE, DONE_LATER], &[]),
     (&[BATCH, CUT_SHORT], 9, &[DONE, TRUNCATED], &[]),
+    (&[BATCH, LAST, ASTRAY], 9, &[DONE, DONE_LATER], &[ASTRAY]),
+    (&[LAST_ASTRAY, BATCH], 9, &[NO_ROUTE], &[BATCH]),
+    (&[KEYLESS, BATCH], 9, &[UNKNOWN_KEY, DONE_LATER], &[]),
 ];
 
 /// No byte is read behind the last message: the reader would fail behind its last byte.
-static IN_PART: [Connection; 4] = [
+static IN_PART: [Connection; 6] = [
     (&[BATCH, ASTRAY], 0, &[], &[BATCH, ASTRAY]),
     (&[BATCH, ASTRAY], 1, &[DONE], &[ASTRAY]),
     (&[BATCH, ASTRAY, BATCH], 2, &[DONE, NO_ROUTE], &[BATCH]),
     (&[BATCH, ASTRAY], 2, &[DONE, NO_ROUTE], &[]),
+    (&[LAST, ASTRAY], 9, &[DONE], &[ASTRAY]),
+    (&[BATCH, LAST_ASTRAY], 9, &[DONE, NO_ROUTE], &[]),
 ];
 
 /// Heads that are refused by themselves, whatever would come behind them: the reader would fail.

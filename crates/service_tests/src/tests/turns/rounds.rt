@@ -1,6 +1,8 @@
 use super::scripted::{Peer, Scripted};
 use crate::tests::firms::Firms;
-use crate::tests::messages::{FIRST, OF_FIRST, OF_SECOND, SECOND, TO_CUT, TO_SECOND};
+use crate::tests::messages::{
+    FIRST, LAST_AND_ONE_MORE, OF_FIRST, OF_SECOND, SECOND, TO_CUT, TO_LAST, TO_SECOND,
+};
 use std::test::Fail;
 
 const KEYS: [&str; 2] = [FIRST, SECOND];
@@ -76,6 +78,20 @@ fn many_share_rounds_and_hear_what_each_hears_alone(rt: HostRuntime) -> Result<(
     assert!(rt; written_at(&peers, 31) < written_at(&peers, 32));
     assert!(rt; written_at(&peers, 32) == written_at(&peers, 39));
     assert!(rt; peers.shared.get() >= 40);
+    Ok(())
+}
+
+// Their messages are answered in one round, and what follows them is not.
+#[test]
+fn who_closes_in_a_round_is_let_go_behind_it(rt: HostRuntime) -> Result<(), Fail> {
+    let mut firms = Firms::with(rt.alloc(), &KEYS)?;
+    let mut peers = clients(&rt, &[LAST_AND_ONE_MORE, OF_SECOND, LAST_AND_ONE_MORE])?;
+    assert!(rt; firms.serve_ready(&mut peers, 99) == 5);
+    assert!(rt; peers.has_heard(0, TO_LAST.as_bytes(), false));
+    assert!(rt; peers.has_heard(1, TO_SECOND.as_bytes(), false));
+    assert!(rt; peers.has_heard(2, TO_LAST.as_bytes(), false));
+    assert!(rt; written_at(&peers, 0) == written_at(&peers, 2));
+    assert!(rt; peers.shared.get() >= 3);
     Ok(())
 }
 
