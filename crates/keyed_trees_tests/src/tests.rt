@@ -1,7 +1,9 @@
 mod shelves;
 
 use keyed_trees::{Committed, Range, Tables, Transaction};
-use shelves::{ByName, ByPlace, Shelves, Thing, begin, numbers, object, placed, store, things};
+use shelves::{
+    ByName, ByPlace, Label, Shelves, Thing, begin, numbers, object, placed, store, things,
+};
 use sqlite_trees::error::StoreError;
 use sqlite_trees::memory::MemStore;
 use sqlite_trees::store::{Direction, Shape};
@@ -172,5 +174,22 @@ fn a_store_with_other_trees_is_refused(rt: HostRuntime) -> Result<(), Fail> {
         )],
     )?;
     assert!(&rt; Committed::<MemStore, Shelves>::over(alloc, other).is_err());
+    Ok(())
+}
+
+#[test]
+fn columns_of_each_type_are_read_back(rt: HostRuntime) -> Result<(), Fail> {
+    let alloc = rt.alloc();
+    let mut tables = begin(things(alloc)?)?;
+    tables.add(&Label {
+        code: [1, 2],
+        text: String::from_str(alloc, "glass")?,
+    })?;
+    let Some((1, label)) = tables.find_at::<Label>(1)? else {
+        panic!(&rt; "the row was not found");
+    };
+    assert_eq!(&rt; label.code, [1, 2]);
+    assert_eq!(&rt; label.text.as_str(), "glass");
+    assert_eq!(&rt; tables.find_at::<Thing>(1), Err(StoreError::Unstorable));
     Ok(())
 }

@@ -1,6 +1,6 @@
 //! Things on shelves, with the keys (shelf, name) and (shelf, place).
 
-use keyed_trees::{Columns, Committed, Key, Layout, Record, Transaction};
+use keyed_trees::{Columns, Committed, Key, Layout, Record, Transaction, write_values};
 use sqlite_sql::query::Index;
 use sqlite_trees::error::StoreError;
 use sqlite_trees::memory::MemStore;
@@ -83,6 +83,48 @@ impl Record<Shelves> for Thing {
             shelf: columns.integer()?,
             name: columns.integer()?,
             place: columns.integer()?,
+        })
+    }
+}
+
+/// A row of the same table whose columns have other types.
+#[derive(Debug, Drop, PartialEq)]
+pub(crate) struct Label {
+    pub code: [u8; 2],
+    pub text: String,
+}
+
+impl Record<Shelves> for Label {
+    ghost use Rattle.std.specs.Prelude.{[], ◌∷◌, string_bytes};
+    ghost use Rattle.std.proofs.Common.{rules};
+    ghost use Rattle.sqlite_value.specs.declared.value.Value.TheVariants.{Blob, Null, Text};
+
+    ghost table = { 0 };
+
+    ghost cells = { λ label. Null ∷ Blob label.code ∷ Text (string_bytes label.text) ∷ [] };
+
+    ghost listed = { Prim.search rules };
+
+    fn table() -> u32 {
+        0
+    }
+
+    fn write(&self, row: &mut Row) -> Result<(), AllocError> {
+        write_values(
+            row,
+            &[
+                ValueRef::Null,
+                ValueRef::Blob(&self.code),
+                ValueRef::Text(self.text.as_bytes()),
+            ],
+        )
+    }
+
+    fn read(columns: &mut Columns<'_>) -> Result<Label, StoreError> {
+        columns.null()?;
+        Ok(Label {
+            code: columns.bytes()?,
+            text: columns.text()?,
         })
     }
 }
