@@ -192,7 +192,7 @@ def served_on(house):
 
 
 def stands_alone(house, trial):
-    """Behind a stop the file alone is the ledger: what an ordinary backup takes."""
+    """After a stop the file alone is the ledger: what an ordinary backup takes."""
     alone = os.path.join(trial.inner(), "ledger.db")
     shutil.copy(house.db, alone)
     check(house.program, alone)
@@ -212,7 +212,7 @@ def row_changed(house, trial):
 
 
 def hand_over(house, trial):
-    """Who takes over marks its own replies: without the log that it wrote the file is behind."""
+    """A standby that takes over marks its own replies: without the log that it wrote the file is behind."""
     house.start()
     other = Standby(house.program, house.db, None, ("--standby",))
     end(house, True)

@@ -1,5 +1,5 @@
-"""A crash at each call that changes one of the three files of a ledger: the process killed there, or
-the power lost, so that of what was not synced anything may be missing. What was answered is there."""
+"""A crash at each call that changes one of the three files of a ledger. The process is killed there, or
+the power is lost, and then anything that was not synced may be missing. What was answered is there."""
 
 import os
 import re
@@ -104,7 +104,7 @@ def cut(old, length):
 
 
 def changed(files, call):
-    """The files behind a call."""
+    """The files after a call."""
     if call.kind == WRITTEN and call.file < FOLDER:
         files[call.file] = written(files[call.file], call.place, call.text)
     elif call.kind == CUT:
@@ -116,7 +116,7 @@ def changed(files, call):
 
 
 def played(begin, noted, place):
-    """The files behind so many calls, and the latest clock in a reply before the last of them."""
+    """The files after the first calls, and the latest clock in a reply before the last of these."""
     files, answered = list(begin), 0
     for call in noted[:place]:
         changed(files, call)
@@ -126,8 +126,8 @@ def played(begin, noted, place):
 
 
 def without_power(trial, begin, noted, place):
-    """The same where the power is lost: of each call since the last sync of its file nothing has come
-    to the disk, or all, or of a write a part. A name changes with the folder's sync at the latest."""
+    """The same where the power is lost. Of each call since the last sync of its file the disk has
+    nothing, or all, or a part of a write. A name changes with the folder's sync at the latest."""
     last = {file: max((at for at in range(place) if noted[at].kind == SYNCED
                        and noted[at].file == file), default=-1) for file in range(FOLDER + 1)}
     files = list(begin)

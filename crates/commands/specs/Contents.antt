@@ -1,4 +1,4 @@
--- What is in a ledger file, as it is told.
+-- What is in a ledger file, as a line says it.
 use Rattle.std.specs.Prelude.{ℕ, List, [], ◌∷◌, ◌++◌, codes}
 use Rattle.std.specs.Fmt.{decimal}
 use Rattle.commands.specs.declared.contents.Contents.{Contents}

@@ -64,7 +64,7 @@ module _ {O D : Type 0} {g : disk.Ghosts D} where
   abbrev pub IsCalm : Ended O D g → Type 0
   IsCalm ended = (ended.is_damaged ≡ false) × (ended.made ≡ None)
 
-  -- what is in a ledger that was opened is told
+  -- a line says what is in a ledger that was opened
   abbrev pub SaysWhatIsIn : Ended O D g → Type 0
   SaysWhatIsIn ended = TellsContents ended.held (text_of ended.contents)
 
@@ -281,13 +281,13 @@ abbrev pub line_beside : Option (List ℕ) → Option (List ℕ) → Option (Lis
 line_beside (Some path) contents = Some (new_ledger_line path)
 line_beside None contents = contents
 
--- it is told there, and else nothing
+-- that line is printed there, and nothing without one
 abbrev pub IsBesideTold : Option (List ℕ) → Told → Type 0
 IsBesideTold None err = err.behind ≡ err.before
 IsBesideTold (Some line) err = err.has_failed ≡ false → Appends err.before err.behind line
 
--- what a command has come to is told: 0, or 4 where damage was, with nothing on standard error but
--- a new ledger, or what is in one; or its fault
+-- the status of a command is 0, or 4 where it found damage, or that of its fault; standard error has
+-- a line for a new ledger, for what is in one, or for the fault, and else nothing
 abbrev pub TellsEnded :
     {O D : Type 0} {g : disk.Ghosts D} → Result (Ended O D g) Fault → Told → ℕ → Type 0
 TellsEnded (Ok ended) err status =

@@ -12,8 +12,8 @@ use std::hash::{BuildHasher, RandomState};
 use store::Store;
 
 /// Lets go of the files that were served, with the log written back. Where their disk has failed
-/// they are left as they are. Where the log cannot be written back it still belongs to the file,
-/// which is told.
+/// they are left as they are. A log that cannot be written back still belongs to the file, and a line
+/// on standard error says so.
 pub(crate) fn leave_served<D: Disk + Drop>(
     rt: &HostRuntime,
     db: &str,
@@ -27,8 +27,8 @@ pub(crate) fn leave_served<D: Disk + Drop>(
     }
 }
 
-/// Lets go of what a command has, likewise where it has changed the file. A log that cannot be
-/// written back stays beside its file.
+/// Lets go of what a command has, with the log written back if it has changed the file. A log that
+/// cannot be written back stays beside its file.
 pub(crate) fn leave_held<D: Disk + Drop>(rt: &HostRuntime, held: Held<D>, changed: bool) {
     if !changed {
         return;

@@ -24,9 +24,9 @@ use std::fmt::Display;
 /// Does what the words after the program's name ask for, on files of this machine, and says the
 /// status with which the program ends: 0, or that of the fault, whose line it writes to `err`; 2
 /// and `clap`'s text there, where the words are refused; 4 where `check` has told of damage on
-/// `out`. Behind the line of an `unreadable` file the system's reason may stand. A file that
-/// `tenant-add` makes a new ledger is told on `err`, and so is what `check`, `copy` and `tenants`
-/// have found in one that they read. `--version` is answered on `out`. For no
+/// `out`. Behind the line of an `unreadable` file the system's reason may stand. It reports on
+/// `err` a file that `tenant-add` makes a new ledger, and what `check`, `copy` and `tenants` have
+/// found in one that they read. `--version` is answered on `out`. For no
 /// words, and for `serve` and `lint`, it does nothing. `St` stands for what the file and its log
 /// hold; which one it is matters to the clauses on values alone.
 pub fn program<S: AsStr, St: Start, O: Drain + Drop, E: Drain>(
@@ -90,8 +90,8 @@ fn changes(asked: Command<'_>) -> bool {
     )
 }
 
-// The status of what a command has come to, whose fault is told. A file that it changed is let go
-// of as one.
+// The status of what a command has come to. Prints its fault. A file that it changed is left with
+// its log written back.
 fn tell<O: Drop, D: Disk + Drop, E: Drain>(
     rt: &HostRuntime,
     err: &mut E,

@@ -81,14 +81,14 @@ const REFUSED: [(Route, &str, Refusal, &str); 12] = [
         Refusal::BadField,
         r#"{"error":"bad_field","field":"code","want":"a whole number below 65536"}"#,
     ),
-    // Where a path is at fault, and not the body, nothing more is told.
+    // Where a path is at fault, and not the body, the reply says nothing more.
     (
         Route::Statement,
         "",
         Refusal::BadField,
         r#"{"error":"bad_field"}"#,
     ),
-    // Nor is it where memory was wanting.
+    // Nor where memory was lacking.
     (
         Route::Transfers,
         "{}",
@@ -100,7 +100,7 @@ const REFUSED: [(Route, &str, Refusal, &str); 12] = [
 #[test]
 fn says_where_a_body_is_refused(rt: HostRuntime) -> Result<(), Fail> {
     for (route, body, refusal, want) in REFUSED {
-        is_told(&rt, &asked(&rt, route, body, true), refusal, want)?;
+        is_told(&rt, &question(&rt, route, body, true), refusal, want)?;
     }
     Ok(())
 }
@@ -108,7 +108,7 @@ fn says_where_a_body_is_refused(rt: HostRuntime) -> Result<(), Fail> {
 #[test]
 fn says_nothing_more_unless_it_is_asked(rt: HostRuntime) -> Result<(), Fail> {
     for (route, body, refusal, _) in REFUSED {
-        let reply = refused_reply(rt.alloc(), &asked(&rt, route, body, false), refusal);
+        let reply = refused_reply(rt.alloc(), &question(&rt, route, body, false), refusal);
         same(&rt, body, reply.bytes(), refusal.reply().as_bytes());
     }
     Ok(())
@@ -126,7 +126,7 @@ fn leaves_a_long_name_out(rt: HostRuntime) -> Result<(), Fail> {
         let want = format!(in rt.alloc();
             "{{\"error\":\"bad_field\",{field}\"want\":\"known fields only\"}}"
         )?;
-        let asked = asked(&rt, Route::OpenPending, body.as_str(), true);
+        let asked = question(&rt, Route::OpenPending, body.as_str(), true);
         is_told(&rt, &asked, Refusal::BadField, want.as_str())?;
     }
     Ok(())
@@ -140,12 +140,12 @@ fn says_that_a_list_is_too_long(rt: HostRuntime) -> Result<(), Fail> {
         body.push_str(",\"1\"")?;
     }
     body.push_str("]")?;
-    let asked = asked(&rt, Route::LookupAccounts, body.as_str(), true);
+    let asked = question(&rt, Route::LookupAccounts, body.as_str(), true);
     let want = r#"{"error":"too_many_events","want":"at most 1,000 events or ids"}"#;
     is_told(&rt, &asked, Refusal::TooManyEvents, want)
 }
 
-fn asked<'a>(rt: &impl Abort, route: Route, body: &'a str, detail: bool) -> Asked<'a> {
+fn question<'a>(rt: &impl Abort, route: Route, body: &'a str, detail: bool) -> Asked<'a> {
     Asked {
         route,
         account: "",
