@@ -18,7 +18,7 @@ use Rattle.service.specs.Seen.{Whole, Within, seen}
 use Rattle.clients.specs.Talk.{Talk, may_answer}
 use Rattle.clients.specs.Answering.{IsReplyReady}
 
--- the next message, of so many bytes, is taken, and this reply to it is to be written; the
+-- the next message, of this size in bytes, is taken, and this reply to it is to be written; the
 -- connection goes on after it or not
 abbrev pub replied_to : ℕ → Bool → Reply → Talk → Talk
 replied_to size goes_on reply talk = record {

@@ -157,8 +157,8 @@ impl Client {
         self.inbox.front(size)
     }
 
-    /// Its next message, of so many bytes, is answered: this reply is to be written. It is the
-    /// last, if the message says so.
+    /// Answers its next message, of `size` bytes: this reply is to be written. It is the last, if
+    /// the message says so.
     pub fn put_reply(&mut self, size: usize, reply: Reply)
         requires { size ≤ length self.old.unread.bytes }
         ensures { IsRepliedTo size reply self.old self.new }

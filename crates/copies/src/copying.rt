@@ -22,7 +22,7 @@ enum Stage {
     Last,
     /// The copy's log is written back into its database.
     Join,
-    /// The copy, which has so many bytes, gets its name.
+    /// The copy, which has this number of bytes, gets its name.
     Name(u64),
 }
 

@@ -52,8 +52,8 @@ impl Names {
         })
     }
 
-    /// Takes away what is left of a copy that was cut short, and looks whether the names are free:
-    /// the copy's, and those of a log, a journal and FILE-sums, which would be taken for its own.
+    /// Takes away what is left of a copy that was cut short, and looks whether the names are free.
+    /// They are the copy's, and those of a log, a journal and FILE-sums beside it.
     pub(crate) fn are_free(&self, rt: &HostRuntime) -> Result<bool, CopyFault> {
         self.clear(rt);
         Ok(!self.are_taken(rt)?)

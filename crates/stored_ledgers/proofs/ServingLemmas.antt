@@ -20,8 +20,8 @@ rests_still sets old new serves same quiet =
     let there = subst (CanServe sets) (sym same.now) serves in
     record { quiet = quiet; ledgers = there.ledgers; covered = there.covered }
 
--- after a change that keeps what is served the tables serve on, whatever was answered, also
--- where the answer is told in other words
+-- after a change that keeps what is served the tables serve on, whatever the answer is and in
+-- whatever words it stands
 pub serves_after : {O R A : Type 0} (answer : Answer O R) (result : Result A Unavailable)
     (does : O → Type 0) (refuses : R → Type 0) (sets : DueSets) (old new : State)
     → (answer ≡ Err Disk → result ≡ Err Disk)

@@ -1,5 +1,5 @@
 -- The events, filters and queries that JSON objects mean. A table has the fields that an object may
--- have, in the order in which they are read, with the number wanted in each. Behind it stands what
+-- have, in the order in which they are read, with the number wanted in each. After it stands what
 -- they say where each of them is good.
 use Rattle.std.specs.Prelude.{ℕ, ◌^◌, [], ◌∷◌, ◌++◌, codes, Option, Some, None}
 use Rattle.std.specs.Prelude.{nat_lt, if◌then◌else◌}
