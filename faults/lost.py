@@ -126,8 +126,8 @@ def played(begin, noted, place):
 
 
 def without_power(trial, begin, noted, place):
-    """The same where the power is lost. Of each call since the last sync of its file the disk has
-    nothing, or all, or a part of a write. A name changes with the folder's sync at the latest."""
+    """The same where the power is lost. The disk has nothing of a call since the last sync of its
+    file, or all of it, or a part of a write. A name changes with the folder's sync at the latest."""
     last = {file: max((at for at in range(place) if noted[at].kind == SYNCED
                        and noted[at].file == file), default=-1) for file in range(FOLDER + 1)}
     files = list(begin)

@@ -24,7 +24,7 @@ use std::fmt::Display;
 /// Does what the words after the program's name ask for, on files of this machine, and says the
 /// status with which the program ends: 0, or that of the fault, whose line it writes to `err`; 2
 /// and `clap`'s text there, where the words are refused; 4 where `check` has told of damage on
-/// `out`. Behind the line of an `unreadable` file the system's reason may stand. It reports on
+/// `out`. After the line of an `unreadable` file the system's reason may stand. It reports on
 /// `err` a file that `tenant-add` makes a new ledger, and what `check`, `copy` and `tenants` have
 /// found in one that they read. `--version` is answered on `out`. For no
 /// words, and for `serve` and `lint`, it does nothing. `St` stands for what the file and its log
