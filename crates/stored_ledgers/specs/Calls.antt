@@ -27,8 +27,8 @@ pub record ServesOn {A E : Type 0} (disk : E) (sets : DueSets) (new : State)
   pub resting : Live new → IsResting sets new
   pub is_open : HasCleanDisk new → result ≢ Err disk → IsTrue new.is_open
 
--- what a change of which tenants there are leaves: `Told` holds of the databases before and after,
--- the tables serve on, and a crash leaves what was there before, or what `Left` says
+-- what a change of the tenants leaves: `Told` holds of the databases before and after, and the
+-- tables serve on. A crash leaves what was there before, or what `Left` says
 pub record ChangesTenants {A E : Type 0} (disk : E) (Told : Database → Database → Type 0)
     (Left : Database → Trees → Type 0) (sets : DueSets) (old new : State) (result : Result A E)
     : Type 0 where
