@@ -286,8 +286,8 @@ abbrev pub IsBesideTold : Option (List ℕ) → Told → Type 0
 IsBesideTold None err = err.behind ≡ err.before
 IsBesideTold (Some line) err = err.has_failed ≡ false → Appends err.before err.behind line
 
--- the status of a command is 0, or 4 where it found damage, or that of its fault; standard error has
--- a line for a new ledger, for what is in one, or for the fault, and else nothing
+-- The status of a command is 0, or 4 where it found damage, or that of its fault. Standard error has
+-- a line for a new ledger, for what is in one, or for the fault, and else nothing.
 abbrev pub TellsEnded :
     {O D : Type 0} {g : disk.Ghosts D} → Result (Ended O D g) Fault → Told → ℕ → Type 0
 TellsEnded (Ok ended) err status =

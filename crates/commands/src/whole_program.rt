@@ -22,11 +22,11 @@ use std::convert::AsStr;
 use std::fmt::Display;
 
 /// Does what the words after the program's name ask for, on files of this machine, and says the
-/// status with which the program ends: 0, or that of the fault, whose line it writes to `err`; 2
-/// and `clap`'s text there, where the words are refused; 4 where `check` has told of damage on
-/// `out`. After the line of an `unreadable` file the system's reason may stand. It reports on
-/// `err` a file that `tenant-add` makes a new ledger, and what `check`, `copy` and `tenants` have
-/// found in one that they read. `--version` is answered on `out`. For no
+/// status with which the program ends. It is 0, or that of the fault, whose line goes to `err`.
+/// Where the words are refused it is 2, with `clap`'s text there. It is 4 where `check` has found
+/// damage, which it reports on `out`. After the line of an `unreadable` file the system's reason
+/// may stand. It reports on `err` a file that `tenant-add` makes a new ledger, and what `check`,
+/// `copy` and `tenants` have found in one that they read. `--version` is answered on `out`. For no
 /// words, and for `serve` and `lint`, it does nothing. `St` stands for what the file and its log
 /// hold; which one it is matters to the clauses on values alone.
 pub fn program<S: AsStr, St: Start, O: Drain + Drop, E: Drain>(
