@@ -60,7 +60,8 @@ class Messages(unittest.TestCase):
         first, headers = lines_of(sent)
         self.assertEqual(first, lines_of(wanted)[0])
         host = f"Host: 127.0.0.1:{fake.port}".encode()
-        self.assertEqual(headers, lines_of(wanted)[1] | {host})
+        own = {host, b"x-ledger-detail: 1"}
+        self.assertEqual(headers, lines_of(wanted)[1] | own)
         self.assertEqual(told.clock, 3)
         (result,) = told
         self.assertEqual((result.number, result.name, result.timestamp), (0, "ok", 3))

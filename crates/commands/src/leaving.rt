@@ -36,7 +36,9 @@ pub(crate) fn leave_held<D: Disk + Drop>(rt: &HostRuntime, held: Held<D>, change
     let _left = match held {
         Held::Opened(store) => leave(rt, store.into_backend().close()),
         Held::Migrated(ledger) => leave(rt, ledger.close()),
-        Held::Nothing | Held::Asked(_) | Held::Damaged(_) => Ok(()),
+        Held::Asked(_answer) => Ok(()),
+        Held::Damaged(_files) => Ok(()),
+        Held::Nothing => Ok(()),
     };
 }
 

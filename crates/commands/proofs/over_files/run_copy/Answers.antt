@@ -22,11 +22,11 @@ returns g c =
         copied =
             subst
             (λ (text : List ℕ). HasToldOr (TellsCopied (string_bytes c.in_ok-to.to) text)
-            (HasOpened (IsFrom (image_at g.St.Start))) c.in_ok-digits.held)
+            (HasOpened (IsFrom (image_at g.St.Start))) c.in_ok-digits.field-0.held)
             digits.1
             (subst
-            (λ (path : List ℕ). HasToldOr (TellsCopied path (string_bytes c.in_ok-digits.digits))
-            (HasOpened (IsFrom (image_at g.St.Start))) c.in_ok-digits.held)
+            (λ (path : List ℕ). HasToldOr (TellsCopied path (string_bytes c.in_ok-digits.field-0.digits))
+            (HasOpened (IsFrom (image_at g.St.Start))) c.in_ok-digits.field-0.held)
             c.as_str.ensures.value c.in_ok-digits.ensures.copied);
       };
       calm = (refl, refl);
