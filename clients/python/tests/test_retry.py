@@ -208,7 +208,8 @@ class Deadlines(unittest.TestCase):
     def unanswered(self, script, call, **options):
         with Fake(script) as fake:
             with self.assertRaises(Unanswered) as raised:
-                call(fake.ledger(deadline=0.6, **options))
+                # A machine with other work may do nothing for some tenths of a second.
+                call(fake.ledger(deadline=2, **options))
             self.assertIsNotNone(raised.exception.__cause__)
             return raised.exception, fake
 
