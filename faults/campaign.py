@@ -168,4 +168,5 @@ def main():
     print("\nTried, and nothing failed:\n" + "\n".join(summary))
 
 
-main()
+if __name__ == "__main__":
+    main()
