@@ -1,0 +1,10 @@
+pub mod CutLemmas
+pub mod EntryLemmas
+pub mod HandLemmas
+pub mod JoinLemmas
+pub mod KeyOrder
+pub mod LoopLemmas
+pub mod PieceLemmas
+pub mod SortLemmas
+pub mod StateLemmas
+pub mod WalkLemmas

@@ -1,0 +1,4 @@
+mod FoundLemmas
+mod ListLemmas
+mod OwnLemmas
+mod ReadLemmas

@@ -1,0 +1,23 @@
+use Rattle.std.proofs.Common.{pos, true, refl, to_z-of_z, SFits, w64, rules}
+use Rattle.std.proofs.Math.Facts.{to_z_pos}
+use Rattle.keyed_trees.specs.Kept.{state}
+use Rattle.ledger_sql.specs.Effects.{SetsOne}
+use Rattle.ledger_sql.specs.Schema.{clock_tree, ledger_schema}
+use Rattle.ledger_sql.specs.TableRows.{clock_rows}
+use Rattle.ledger_sql.specs.Values.{clock_values}
+use Rattle.ledger_layout.proofs.FrameLemmas.{follows, wrote}
+use Rattle.ledger_trees.proofs.FileLemmas.{sets_clock}
+use Rattle.ledger_trees.proofs.clock.set.Goals as goal
+use Rattle.ledger_trees.proofs.clock.set.Goals.{in-Ok, in-Err}
+
+pub returns : goal.returns
+returns g c =
+    let old = state ledger_schema g.S.Store c.trees.inside.tables in
+    let new = state ledger_schema g.S.Store c.put.new.self in
+    let fits : SFits w64 c.args.tenant = search rules in
+    let small = to_z_pos w64 c.requires in
+    rw (← c.trees.view_is) (elim c.match-put.branch [
+      | in-Ok w ↦ rw w.result-is (wrote (SetsOne clock_rows clock_tree c.args.tenant (λ _. true) (clock_values (pos c.args.clock))) old new
+          (λ clean. sets_clock old new refl c.args.tenant (pos c.args.clock) (rw small at (simp to_z-of_z at (w.in-Ok.ensures.ok clean)))) w.in-Ok.ensures.follows)
+      | in-Err w ↦ rw w.result-is (record { ok = λ clean. tt; err = w.in-Err.ensures.err; follows = follows old new w.in-Err.ensures.follows })
+    ])
