@@ -1,4 +1,5 @@
-//! Tests of `amount`, `tenants`, `records`, `engine`, `plain`, `rows`, `running` and `audit`.
+//! Tests of `amount`, `tenants`, `records`, `engine`, `plain`, `rows`, `running`, `audit` and
+//! `seals`.
 #![tactic(auto)]
 
 #[cfg(test)]

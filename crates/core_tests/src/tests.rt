@@ -10,5 +10,6 @@ mod cells;
 mod decisions;
 mod ledger_records;
 mod replays;
+mod seals;
 mod stored_rows;
 mod tenant_identity;

@@ -1,0 +1,5 @@
+mod Columns
+mod Order
+mod Texts
+mod Chains
+mod Machines
