@@ -28,7 +28,8 @@ TRANSFER = {"id": "100", "debit_account_id": "1", "credit_account_id": "2", "amo
 FILTER = {"account_id": "1", "flags": 3, "limit": 10}
 BODIES = {"/accounts": ACCOUNTS, "/transfers": [TRANSFER], "/history/transfers": FILTER,
           "/history/balances": FILTER, "/query/accounts": {"limit": 10},
-          "/query/transfers": {"limit": 10}, "/pending/open": {"limit": 10}}
+          "/query/transfers": {"limit": 10}, "/pending/open": {"limit": 10},
+          "/lint/accounts": ACCOUNTS, "/lint/transfers": [TRANSFER]}
 # Words that say where the body is refused, if the request asks for that.
 OF_BODY = {"body_not_json", "bad_field", "too_many_events"}
 # Words that need a state of the service, and not a request that is wrong.
@@ -131,7 +132,9 @@ def refused(description, tenant):
         for status, word in description.words(operation):
             if word not in BY_STATE:
                 sent = wrong_message(word, method, template, tenant.key)
-                expect(description, method, template, status, word, tenant.send(sent))
+                judges = template.startswith("/lint/") and word in OF_BODY
+                looks = expect_detail if judges else expect
+                looks(description, method, template, status, word, tenant.send(sent))
                 many += 1
                 if word in OF_BODY and method == "POST":
                     asking = sent.replace(b"\r\n", b"\r\nx-ledger-detail: 1\r\n", 1)

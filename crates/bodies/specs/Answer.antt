@@ -12,7 +12,7 @@ use Rattle.wire.specs.declared.request.Request.{Request}
 use Rattle.wire.specs.Asked.{told_if_refused}
 use Rattle.wire.specs.Meaning.{meaning_of}
 use Rattle.wire.specs.Reply.{account_batch_data, transfer_batch_data, accounts_data}
-use Rattle.wire.specs.Reply.{transfers_data, balances_data, page_data, holds_data, refusal_data}
+use Rattle.wire.specs.Reply.{transfers_data, balances_data, page_data, holds_data, linted_data, refusal_data}
 use Rattle.service.specs.Served.{served_by, served_to}
 use Rattle.bodies.specs.declared.plain_reply.PlainReply.{PlainReply}
 use Rattle.bodies.specs.declared.plain_reply.PlainReply.TheVariants.{Body, Refused, Unavailable}
@@ -33,6 +33,7 @@ shown (told.Balances clock balances) = Ok (compact_text (balances_data clock bal
 shown (told.Page clock next entries) = Ok (compact_text (page_data clock next entries))
 shown (told.Holds clock holds) = Ok (compact_text (holds_data clock holds))
 shown (told.Statement text) = Ok text
+shown (told.Linted events) = Ok (compact_text (linted_data events))
 
 -- what a tenant is told: the reply's body, or why there is none
 abbrev pub plain_answer : Option Machine → List ℕ → ℕ → Result (List ℕ) Refusal

@@ -1,5 +1,5 @@
 -- What the first message of some bytes asks for.
-use Rattle.std.specs.Prelude.{◌≡◌, ◌≢◌, ℕ, Bool, List, bytes_eq, codes, Option, option_and_then, ok_or, Result, Ok, Err, IsOk, MatchResult, if◌then◌else◌}
+use Rattle.std.specs.Prelude.{◌≡◌, ◌≢◌, ◌||◌, ℕ, Bool, List, bytes_eq, codes, Option, option_and_then, ok_or, Result, Ok, Err, IsOk, MatchResult, if◌then◌else◌}
 use Rattle.httparse.specs.Grammar.{RequestHead}
 use Rattle.tenants.specs.KeyText.{key_of}
 use Rattle.ledger_http.specs.declared.early.Early.{Early}
@@ -11,7 +11,7 @@ use Rattle.ledger_http.specs.declared.request.Asked.{Asked}
 use Rattle.ledger_http.specs.Results.{and_then}
 use Rattle.ledger_http.specs.Head.{key_text, wants_detail}
 use Rattle.ledger_http.specs.Message.{First, first_message, HasHead}
-use Rattle.ledger_http.specs.Routes.{route_of, method_of, account_text}
+use Rattle.ledger_http.specs.Routes.{route_of, method_of, account_text, is_lint}
 
 -- a request up to its key, whether it asks for detail, and its body as it stands
 pub record Question : Type 0 where
@@ -35,7 +35,7 @@ question_by_route first =
       route = route;
       account = account_text first.head.target;
       key = key;
-      detail = wants_detail first.head;
+      detail = wants_detail first.head || is_lint route;
       body = first.body;
     }))))
 

@@ -1,5 +1,5 @@
 -- The routes, and which of them a path has.
-use Rattle.std.specs.Prelude.{ℕ, List, [], ◌∷◌, bytes_eq, codes, Option, option_map, Result, Ok, Err, nat_eq, drop, length, if◌then◌else◌}
+use Rattle.std.specs.Prelude.{ℕ, Bool, true, false, List, [], ◌∷◌, bytes_eq, codes, Option, option_map, Result, Ok, Err, nat_eq, drop, length, if◌then◌else◌}
 use Rattle.std.specs.List.{filter, find, fold, starts_with}
 use Rattle.matchit.specs.Rows.{RowsOf}
 use Rattle.matchit.specs.Order.{placed}
@@ -13,6 +13,7 @@ use Rattle.ledger_http.specs.declared.route.Route.TheVariants.{LookupTransfers, 
 use Rattle.ledger_http.specs.declared.route.Route.TheVariants.{HistoryBalances, QueryAccounts}
 use Rattle.ledger_http.specs.declared.route.Route.TheVariants.{QueryTransfers, LookupPending}
 use Rattle.ledger_http.specs.declared.route.Route.TheVariants.{OpenPending, Statement}
+use Rattle.ledger_http.specs.declared.route.Route.TheVariants.{LintAccounts, LintTransfers}
 
 -- the path of each route
 abbrev pub path_of : Route → List ℕ
@@ -27,6 +28,8 @@ path_of QueryTransfers = codes "/query/transfers"
 path_of LookupPending = codes "/pending/lookup"
 path_of OpenPending = codes "/pending/open"
 path_of Statement = codes "/statement/{account}"
+path_of LintAccounts = codes "/lint/accounts"
+path_of LintTransfers = codes "/lint/transfers"
 
 -- the method of each route
 abbrev pub method_of : Route → List ℕ
@@ -41,12 +44,21 @@ method_of QueryTransfers = codes "POST"
 method_of LookupPending = codes "POST"
 method_of OpenPending = codes "POST"
 method_of Statement = codes "GET"
+method_of LintAccounts = codes "POST"
+method_of LintTransfers = codes "POST"
+
+-- whether a route judges a body alone, and always says where it refuses the body
+abbrev pub is_lint : Route → Bool
+is_lint LintAccounts = true
+is_lint LintTransfers = true
+is_lint route = false
 
 -- all of them
 abbrev pub all_routes : List Route
 all_routes =
     Accounts ∷ Transfers ∷ LookupAccounts ∷ LookupTransfers ∷ HistoryTransfers ∷ HistoryBalances
-    ∷ QueryAccounts ∷ QueryTransfers ∷ LookupPending ∷ OpenPending ∷ Statement ∷ []
+    ∷ QueryAccounts ∷ QueryTransfers ∷ LookupPending ∷ OpenPending ∷ Statement ∷ LintAccounts
+    ∷ LintTransfers ∷ []
 
 -- those to which bodies are posted
 abbrev pub posted_routes : List Route

@@ -1,17 +1,18 @@
 //! Which request a message asks, or whether it asks for the page or for health.
-ghost use Rattle.std.specs.Prelude.{◌≡◌, ◌≤◌, Err, IfOk};
+ghost use Rattle.std.specs.Prelude.{◌≡◌, ◌≤◌, ◌||◌, Err, IfOk};
 ghost use Rattle.httparse.specs.Grammar.{RequestHead};
 ghost use Rattle.ledger_http.specs.Limits.{max_body};
 ghost use Rattle.ledger_http.specs.Message.{First, length_of_body};
 ghost use Rattle.ledger_http.specs.Header.{ShowsHead};
 ghost use Rattle.ledger_http.specs.Question.{question_by_route, told_by, question_in, TellsQuestion};
 ghost use Rattle.ledger_http.specs.Question.{IsAsked};
+ghost use Rattle.ledger_http.specs.Routes.{is_lint};
 
 use crate::ends::head_length;
 use crate::head::{Head, head_of};
 use crate::limits::MAX_BODY;
 use crate::routing::{account_in, find_route};
-use crate::{Asked, Early, Refusal};
+use crate::{Asked, Early, Refusal, Route};
 use std::alloc::Global;
 use tenants::Key;
 
@@ -26,6 +27,14 @@ pub(crate) fn body_length(head: &Head<'_>) -> Result<usize, Refusal>
         None if head.method == b"GET".as_slice() => Ok(0),
         None => Err(Refusal::LengthRequired),
     }
+}
+
+// Whether a refusal of the body says where: if that is asked for, and always where a body is judged
+// alone.
+fn says_where(is_asked: bool, route: Route) -> bool
+    ensures { result ≡ (is_asked || is_lint route) }
+{
+    is_asked || route.is_lint()
 }
 
 // What a whole message asks by the routes.
@@ -48,7 +57,7 @@ fn question_by_route<'a>(
         route,
         account: account_in(head.target),
         key,
-        detail: head.wants_detail,
+        detail: says_where(head.wants_detail, route),
         body,
     })
 }

@@ -1,7 +1,9 @@
 ghost use Rattle.std.specs.Prelude.{◌≡◌, IfOk};
 ghost use Rattle.std.specs.String.{string_bytes};
 ghost use Rattle.ledger_http.specs.ReplyText.{head_text, body_text, reply_text, early_reply};
-ghost use Rattle.ledger_http.specs.ReplyText.{health_reply};
+ghost use Rattle.ledger_http.specs.ReplyText.{health_reply, response_text};
+ghost use Rattle.ledger_http.specs.RefusalTable.{status_of};
+ghost use Rattle.ledger_http.specs.declared.content_type.ContentType.TheVariants.{Json};
 ghost use Rattle.ledger_http.specs.Chunks.{chunked_head, chunked_text};
 
 use crate::{ContentType, Early, Refusal, Text};
@@ -21,15 +23,33 @@ pub enum Reply {
     Health,
 }
 
-// All of a reply without refusal that stands before its body.
-fn head(alloc: Global, kind: ContentType, length: usize) -> Result<String, AllocError>
-    ensures { IfOk result (λ head. string_bytes head ≡ head_text 200 kind length) }
+// All of a reply that stands before its body.
+fn head(
+    alloc: Global,
+    status: StatusCode,
+    kind: ContentType,
+    length: usize,
+) -> Result<String, AllocError>
+    ensures { IfOk result (λ head. string_bytes head ≡ head_text status kind length) }
 {
-    let status = StatusCode::OK;
     let kind = kind.name();
     format!(in alloc;
         "HTTP/1.1 {status}\r\ncontent-length: {length}\r\ncontent-type: {kind}\r\n\r\n"
     )
+}
+
+// A reply with this status.
+fn with_status(
+    alloc: Global,
+    status: StatusCode,
+    kind: ContentType,
+    body: &[u8],
+) -> Result<Reply, AllocError>
+    ensures { IfOk result (λ reply. reply_text reply ≡ response_text status kind body.now) }
+{
+    let mut bytes = head(alloc, status, kind, body.len())?.into_bytes();
+    bytes.extend_from_slice(body)?;
+    Ok(Reply::Whole(bytes.into()))
 }
 
 // All of a reply without refusal that stands before a body in chunks.
@@ -60,9 +80,15 @@ impl Reply {
     pub fn of_body(alloc: Global, kind: ContentType, body: &[u8]) -> Result<Reply, AllocError>
         ensures { IfOk result (λ reply. reply_text reply ≡ body_text kind body.now) }
     {
-        let mut bytes = head(alloc, kind, body.len())?.into_bytes();
-        bytes.extend_from_slice(body)?;
-        Ok(Reply::Whole(bytes.into()))
+        with_status(alloc, StatusCode::OK, kind, body)
+    }
+
+    /// A reply that refuses, whose body says more than the refusal's constant reply.
+    pub fn of_refusal(alloc: Global, refusal: Refusal, body: &[u8]) -> Result<Reply, AllocError>
+        ensures { IfOk result (λ reply.
+            reply_text reply ≡ response_text (status_of refusal) Json body.now) }
+    {
+        with_status(alloc, refusal.status(), ContentType::Json, body)
     }
 
     /// A reply without refusal whose body comes in chunks.

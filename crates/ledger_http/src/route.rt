@@ -1,5 +1,5 @@
 ghost use Rattle.std.specs.Prelude.{◌≡◌};
-ghost use Rattle.ledger_http.specs.Routes.{path_of, method_of, posted_route};
+ghost use Rattle.ledger_http.specs.Routes.{path_of, method_of, posted_route, is_lint};
 
 /// What a request asks for.
 #[derive(Clone, Copy, Debug, PartialEq, Eq)]
@@ -26,6 +26,10 @@ pub enum Route {
     OpenPending,
     /// An account's statement.
     Statement,
+    /// Whether a body of account events is good. Nothing is booked.
+    LintAccounts,
+    /// The same of a body of transfer events.
+    LintTransfers,
 }
 
 impl Route {
@@ -45,6 +49,8 @@ impl Route {
             Route::LookupPending => "/pending/lookup",
             Route::OpenPending => "/pending/open",
             Route::Statement => "/statement/{account}",
+            Route::LintAccounts => "/lint/accounts",
+            Route::LintTransfers => "/lint/transfers",
         }
     }
 
@@ -55,6 +61,13 @@ impl Route {
             Route::Statement => b"GET",
             _ => b"POST",
         }
+    }
+
+    /// Whether it judges a body alone. Such a route always says where it refuses the body.
+    pub fn is_lint(self) -> bool
+        ensures { result ≡ is_lint self }
+    {
+        matches!(self, Route::LintAccounts | Route::LintTransfers)
     }
 
     /// The route of a path to which bodies are posted, or none.
@@ -72,6 +85,8 @@ impl Route {
             "/query/transfers" => Some(Route::QueryTransfers),
             "/pending/lookup" => Some(Route::LookupPending),
             "/pending/open" => Some(Route::OpenPending),
+            "/lint/accounts" => Some(Route::LintAccounts),
+            "/lint/transfers" => Some(Route::LintTransfers),
             _ => None,
         }
     }

@@ -37,6 +37,8 @@ fn service_router(alloc: Global) -> Result<Router<Route>, Refusal>
     add(&mut router, Route::LookupPending)?;
     add(&mut router, Route::OpenPending)?;
     add(&mut router, Route::Statement)?;
+    add(&mut router, Route::LintAccounts)?;
+    add(&mut router, Route::LintTransfers)?;
     Ok(router)
 }
 

@@ -1,6 +1,6 @@
 -- What a service does for a tenant between messages.
-use Rattle.std.proofs.Common.{◌≡◌, ℕ, Bool, true, false, nat_lt, cond, List, [], Option, Some, Ok}
-use Rattle.std.proofs.Common.{refl, sym, subst}
+use Rattle.std.proofs.Common.{◌≡◌, ℕ, Bool, true, false, nat_lt, cond, [], Option, Some}
+use Rattle.std.proofs.Common.{refl, subst}
 use Rattle.records.specs.Machine.{Machine}
 use Rattle.records.specs.Chains.{chains_of, after_chains}
 use Rattle.records.specs.Step.{at_clock, clock_after, max_clock, step_machine, transfer_rules}

@@ -119,3 +119,4 @@ read_clock m (read.LookupPending ids) = λ clock is. cc
 read_clock m (read.Statement account) =
     answer_clock (λ rows. told.Statement (statement_chunks rows)) m.clock
     (λ answer clock is. absurd (cc)) (statement_answer m account Oldest)
+read_clock m (read.Lint events) = λ clock is. absurd (cc)

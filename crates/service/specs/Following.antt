@@ -27,6 +27,7 @@ clock_in (told.Balances clock balances) = Some clock
 clock_in (told.Page clock next entries) = Some clock
 clock_in (told.Holds clock holds) = Some clock
 clock_in (told.Statement text) = None
+clock_in (told.Linted events) = None
 
 -- a tenant's machine goes on from the one that a request has left
 pub record GoesOnFrom (left now : Machine) (reply : Outcome) : Type 0 where

@@ -69,6 +69,7 @@ read_told m (read.Query asked) = query_told m asked
 read_told m (read.LookupPending ids) = told.Holds m.clock (found_holds m ids)
 read_told m (read.Statement account) =
     answer_told (λ rows. told.Statement (statement_chunks rows)) (statement_answer m account Oldest)
+read_told m (read.Lint events) = told.Linted events
 
 -- what a machine tells a request at a moment
 abbrev pub told_by : Machine → ℕ → Request → Outcome

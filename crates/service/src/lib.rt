@@ -7,6 +7,7 @@ mod batches;
 mod begun;
 mod exchanging;
 mod laws;
+mod linting;
 mod moments;
 mod querying;
 mod reading;

@@ -4,6 +4,7 @@ ghost use Rattle.wire.specs.declared.request.Request.TheVariants as asks;
 ghost use Rattle.service.specs.Calls.{BeginsOver};
 
 use crate::begun::Begun;
+use crate::linting::begin_lint;
 use crate::querying::begin_query;
 use crate::showing::begin_list;
 use crate::statements::begin_statement;
@@ -49,5 +50,6 @@ pub(crate) fn begin_read<L: Ledgers>(
             begin_list(alloc, found, shows)
         }
         Read::Statement(account) => begin_statement(alloc, ledgers, digest, account),
+        Read::Lint(events) => begin_lint(alloc, ledgers, digest, events),
     }
 }

@@ -30,8 +30,8 @@ pub(crate) fn refusal_of(fault: ReadFault) -> Refusal
     }
 }
 
-// The reply that shows what a read found.
-fn shown(alloc: Global, outcome: Outcome) -> Reply
+/// The reply that shows what a read found.
+pub(crate) fn shown(alloc: Global, outcome: Outcome) -> Reply
     ensures { result ≢ unavailable → reply_text result ≡ outcome_text outcome }
 {
     match reply_to(alloc, outcome) {

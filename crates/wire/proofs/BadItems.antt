@@ -1,12 +1,10 @@
 -- What the first bad item of a list tells of the body.
 use Rattle.std.proofs.Common.{◌≡◌, ℕ, suc, ◌+◌, ◌<◌, ◌≤◌, true, false, List, ◌∷◌, length, Option}
-use Rattle.std.proofs.Common.{Some, None, option_map, refl, ap}
+use Rattle.std.proofs.Common.{Some, None, option_map, Global, refl, ap}
 use Rattle.std.specs.Prelude.{Bool, nat_lt, is_some, option_and_then, if◌then◌else◌}
 use Rattle.serde_json.specs.Data.{Data, Items, no_items, item}
 use Rattle.serde_json.specs.Find.{as_array}
-use Rattle.serde_json.specs.View.{items_view}
-use Rattle.serde_json.specs.declared.value.Value.{Value}
-use Rattle.serde_json.proofs.Views.{items_len-items_view}
+use Rattle.json.specs.declared.value.Value.{Value}
 use Rattle.ledger_http.specs.declared.refusal.Refusal.TheVariants.{BodyNotJson, BadField}
 use Rattle.ledger_http.specs.declared.refusal.Refusal.TheVariants.{TooManyEvents}
 use Rattle.wire.specs.Body.{json_of, each_of, list_in, object_in}
@@ -14,6 +12,8 @@ use Rattle.wire.specs.declared.misfit.Misfit.{Misfit}
 use Rattle.wire.specs.declared.wanted.Wanted.TheVariants.{Json, List as AList, Few}
 use Rattle.wire.specs.Faults.{fault_for, list_fault, of_body, refused}
 use Rattle.wire.specs.Misfits.{Expected, IsMisfitAt, first_bad, told_by}
+use Rattle.wire.specs.Trees.{items_data}
+use Rattle.wire.proofs.Trees.{items_len-items_data}
 use Rattle.wire.proofs.Lists.{HasItems, list_in_few, list_in_many, list_in_bad}
 
 -- where no item is bad, all mean something
@@ -64,29 +64,29 @@ pub not_list : {E : Type 0} (meant_by : Data → Option E) (body : List ℕ) (d 
 unfolding list_in
 not_list meant_by body d is none = rw (is, none)
 
-pub few_good : {E : Type 0} (meant_by : Data → Option E) (body : List ℕ) (vs : List Value)
+pub few_good : {E : Type 0} (meant_by : Data → Option E) (body : List ℕ) (vs : List (Value Global))
     → HasItems body vs → length vs ≤ 1000
-    → first_bad meant_by 0 (items_view vs) ≡ None → refused (list_in meant_by body) ≡ None
+    → first_bad meant_by 0 (items_data vs) ≡ None → refused (list_in meant_by body) ≡ None
 few_good {E} meant_by body vs has few none =
-    go (each_of meant_by (items_view vs)) refl (all_good meant_by 0 (items_view vs) none)
+    go (each_of meant_by (items_data vs)) refl (all_good meant_by 0 (items_data vs) none)
   where
-    go : (all : Option (List E)) → each_of meant_by (items_view vs) ≡ all → is_some all ≡ true
+    go : (all : Option (List E)) → each_of meant_by (items_data vs) ≡ all → is_some all ≡ true
         → refused (list_in meant_by body) ≡ None
     go None is some = cc
     go (Some es) is some = ap refused (list_in_few meant_by body vs es has few is)
 
-pub many_good : {E : Type 0} (meant_by : Data → Option E) (body : List ℕ) (vs : List Value)
+pub many_good : {E : Type 0} (meant_by : Data → Option E) (body : List ℕ) (vs : List (Value Global))
     → HasItems body vs → 1000 < length vs
-    → first_bad meant_by 0 (items_view vs) ≡ None
+    → first_bad meant_by 0 (items_data vs) ≡ None
     → refused (list_in meant_by body) ≡ Some TooManyEvents
 many_good meant_by body vs has many none =
-    ap refused (list_in_many meant_by body vs has many (all_good meant_by 0 (items_view vs) none))
+    ap refused (list_in_many meant_by body vs has many (all_good meant_by 0 (items_data vs) none))
 
-pub bad_item : {E : Type 0} (meant_by : Data → Option E) (body : List ℕ) (vs : List Value) (n : ℕ)
-    → HasItems body vs → first_bad meant_by 0 (items_view vs) ≡ Some n
+pub bad_item : {E : Type 0} (meant_by : Data → Option E) (body : List ℕ) (vs : List (Value Global)) (n : ℕ)
+    → HasItems body vs → first_bad meant_by 0 (items_data vs) ≡ Some n
     → refused (list_in meant_by body) ≡ Some BadField
 bad_item meant_by body vs n has is =
-    ap refused (list_in_bad meant_by body vs has (one_bad meant_by 0 (items_view vs) n is))
+    ap refused (list_in_bad meant_by body vs has (one_bad meant_by 0 (items_data vs) n is))
 
 -- and the fault of it
 
@@ -100,9 +100,9 @@ pub fault_list : {E : Type 0} (meant_by : Data → Option E) (expected : Expecte
 fault_list meant_by expected body d is none = rw (is, none) refl
 
 pub fault_item : {E : Type 0} (meant_by : Data → Option E) (expected : Expected) (body : List ℕ)
-    (vs : List Value) (place : ℕ) (misfit : Misfit)
-    → HasItems body vs → first_bad meant_by 0 (items_view vs) ≡ Some place
-    → IsMisfitAt expected (items_view vs) place misfit
+    (vs : List (Value Global)) (place : ℕ) (misfit : Misfit)
+    → HasItems body vs → first_bad meant_by 0 (items_data vs) ≡ Some place
+    → IsMisfitAt expected (items_data vs) place misfit
     → list_fault meant_by expected body ≡ Some (fault_for (Some (place + 1)) (told_by misfit))
 fault_item meant_by expected body vs place misfit has is (d, at, why) =
     rw (has.is, has.list, is, at, why) refl
@@ -113,8 +113,8 @@ pub bad_object : {E : Type 0} (meant_by : Data → Option E) (body : List ℕ) (
 bad_object meant_by body d is none = rw (is, none) refl
 
 pub fault_number : {E : Type 0} (meant_by : Data → Option E) (expected : Expected) (body : List ℕ)
-    (vs : List Value) (many : Bool) → HasItems body vs → first_bad meant_by 0 (items_view vs) ≡ None
+    (vs : List (Value Global)) (many : Bool) → HasItems body vs → first_bad meant_by 0 (items_data vs) ≡ None
     → nat_lt 1000 (length vs) ≡ many
     → list_fault meant_by expected body ≡ (if many then Some (of_body Few) else None)
 fault_number meant_by expected body vs many has none are =
-    rw (has.is, has.list, none, items_len-items_view, are) refl
+    rw (has.is, has.list, none, items_len-items_data, are) refl

@@ -4,3 +4,4 @@ mod Misfits
 mod Numbers
 mod Objects
 mod Texts
+mod Trees

@@ -38,6 +38,8 @@ refusal_in route.QueryTransfers body = refused (query_in body)
 refusal_in route.LookupPending body = refused (ids_in body)
 refusal_in route.OpenPending body = refused (page_in body)
 refusal_in route.Statement body = None
+refusal_in route.LintAccounts body = refused (accounts_in body)
+refusal_in route.LintTransfers body = refused (transfers_in body)
 
 -- a fault for this reason: of an event or id, or of the body itself
 abbrev pub fault_for : Option ℕ → Reason → BodyFault
@@ -96,6 +98,8 @@ fault_on route.QueryTransfers body = object_fault query_of query_fields body
 fault_on route.LookupPending body = list_fault id_of an_id body
 fault_on route.OpenPending body = object_fault page_of page_fields body
 fault_on route.Statement body = None
+fault_on route.LintAccounts body = list_fault account_of (an_object account_fields) body
+fault_on route.LintTransfers body = list_fault transfer_of (an_object transfer_fields) body
 
 -- the refusal of a fault
 abbrev pub told_refusal : Option BodyFault → Option Refusal

@@ -1,3 +1,4 @@
+pub mod Trees
 pub mod Fields
 pub mod KnownObjects
 pub mod Misfits

@@ -8,7 +8,7 @@ use Rattle.wire.specs.declared.read.Query.TheVariants as query
 use Rattle.wire.specs.declared.read.Read.{Read as ARead}
 use Rattle.wire.specs.declared.read.Read.TheVariants.{LookupAccounts, LookupTransfers}
 use Rattle.wire.specs.declared.read.Read.TheVariants.{HistoryTransfers, HistoryBalances, Query}
-use Rattle.wire.specs.declared.read.Read.TheVariants.{LookupPending, Statement}
+use Rattle.wire.specs.declared.read.Read.TheVariants.{LookupPending, Statement, Lint}
 use Rattle.wire.specs.declared.request.Request.{Request}
 use Rattle.wire.specs.declared.request.Request.TheVariants.{Accounts, Transfers, Read}
 use Rattle.wire.specs.Fields.{number_below}
@@ -43,6 +43,8 @@ meaning_of route.LookupPending account body = read_for LookupPending (ids_in bod
 meaning_of route.OpenPending account body =
     read_for (λ asked. Query (query.OpenPending asked)) (page_in body)
 meaning_of route.Statement account body = read_for Statement (account_in account)
+meaning_of route.LintAccounts account body = read_for (λ events. Lint (length events)) (accounts_in body)
+meaning_of route.LintTransfers account body = read_for (λ events. Lint (length events)) (transfers_in body)
 
 -- a list has at most 1,000 ids
 abbrev pub ReadHasFew : ARead → Type 0
@@ -53,6 +55,7 @@ ReadHasFew (HistoryBalances asked) = Unit {0}
 ReadHasFew (Query asked) = Unit {0}
 ReadHasFew (LookupPending ids) = length ids ≤ 1000
 ReadHasFew (Statement account) = Unit {0}
+ReadHasFew (Lint events) = Unit {0}
 
 -- a list has at most 1,000 events or ids
 abbrev pub HasFew : Request → Type 0

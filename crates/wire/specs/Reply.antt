@@ -220,6 +220,10 @@ page_data clock next (Transfers transfers) =
 page_data clock next (OpenHolds holds) =
     next_and_list timed_hold_data clock next (codes "pending") holds
 
+-- how many events a good body has
+abbrev pub linted_data : ℕ → Data
+linted_data events = object_with ((codes "events", whole_data events) ∷ [])
+
 -- a refusal by its name
 abbrev pub refusal_data : List ℕ → Data
 refusal_data name = object_with ((codes "error", string name) ∷ [])

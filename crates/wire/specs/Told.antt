@@ -11,9 +11,9 @@ use Rattle.wire.specs.declared.body_fault.BodyFault.{BodyFault}
 use Rattle.wire.specs.declared.outcome.Outcome.{Outcome}
 use Rattle.wire.specs.declared.outcome.Outcome.TheVariants.{Refused, Detailed, AccountResults}
 use Rattle.wire.specs.declared.outcome.Outcome.TheVariants.{TransferResults, Accounts, Transfers}
-use Rattle.wire.specs.declared.outcome.Outcome.TheVariants.{Balances, Page, Holds, Statement}
+use Rattle.wire.specs.declared.outcome.Outcome.TheVariants.{Balances, Page, Holds, Statement, Linted}
 use Rattle.wire.specs.Reply.{account_batch_data, transfer_batch_data, accounts_data, transfers_data}
-use Rattle.wire.specs.Reply.{balances_data, page_data, holds_data, fault_data}
+use Rattle.wire.specs.Reply.{balances_data, page_data, holds_data, linted_data, fault_data}
 
 -- a reply whose body is this value as compact JSON
 abbrev pub json_text : Data → List ℕ
@@ -36,3 +36,4 @@ outcome_text (Balances clock balances) = json_text (balances_data clock balances
 outcome_text (Page clock next entries) = json_text (page_data clock next entries)
 outcome_text (Holds clock holds) = json_text (holds_data clock holds)
 outcome_text (Statement chunks) = chunked_text Csv chunks
+outcome_text (Linted events) = json_text (linted_data events)

@@ -1,16 +1,16 @@
 ghost use Rattle.std.specs.Prelude.{◌≡◌, ◌≢◌, ◌≤◌, length, is_some, Some, None, Ok, Err, IfOk};
 ghost use Rattle.std.specs.Prelude.{IfErr};
-ghost use Rattle.serde_json.specs.Errors.{IsMemory};
-ghost use Rattle.serde_json.specs.View.{view, items_view};
-ghost use Rattle.wire.specs.Body.{json_of, each_of, list_in, transfers_in, accounts_in, ids_in};
+ghost use Rattle.wire.specs.Body.{each_of, list_in, transfers_in, accounts_in, ids_in};
 ghost use Rattle.wire.specs.Body.{object_in};
+ghost use Rattle.wire.specs.Trees.{items_data};
 ghost use Rattle.wire.specs.Fields.{known_names, object_of};
 
 use crate::item::Item;
 use crate::object::{Object, read_object};
+use crate::tree::{items, read_json};
+use json::{Scratch, Value};
 use ledger_http::Refusal;
 use records::{AccountEvent, MOST_AT_ONCE, TransferEvent};
-use serde_json::Value;
 use std::alloc::Global;
 
 /// How many events or ids a list may have.
@@ -50,7 +50,8 @@ pub(crate) fn read_one<O: Object>(alloc: Global, body: &[u8]) -> Result<O, Refus
     ensures err { IfErr result (λ e. e ≢ Refusal.Unavailable
         → object_in (object_of (known_names O.fields) O.from_fields) body.now ≡ Err e) }
 {
-    let value = read_json(alloc, body)?;
+    let mut scratch = Scratch::new(alloc);
+    let value = read_json(alloc, body, &mut scratch)?;
     read_object(&value).map_err(|_| Refusal::BadField)
 }
 
@@ -59,8 +60,9 @@ fn read_list<I: Item>(alloc: Global, body: &[u8]) -> Result<Vec<I>, Refusal>
     ensures few { IfOk result (λ list. length list.items ≤ 1000) }
     ensures err { IfErr result (λ e. e ≢ Refusal.Unavailable → list_in I.means body.now ≡ Err e) }
 {
-    let value = read_json(alloc, body)?;
-    let items = value.as_array().ok_or(Refusal::BadField)?;
+    let mut scratch = Scratch::new(alloc);
+    let value = read_json(alloc, body, &mut scratch)?;
+    let items = items(&value).ok_or(Refusal::BadField)?;
     if items.len() <= MAX_ITEMS {
         return read_items(alloc, items);
     }
@@ -73,35 +75,16 @@ fn read_list<I: Item>(alloc: Global, body: &[u8]) -> Result<Vec<I>, Refusal>
     }
 }
 
-pub(crate) fn read_json(alloc: Global, body: &[u8]) -> Result<Value, Refusal>
-    ensures ok { IfOk result (λ value. json_of body.now ≡ Some (view value)) }
-    ensures err { IfErr result (λ e. e ≢ Refusal.Unavailable
-        → (e ≡ Refusal.BodyNotJson) × (json_of body.now ≡ None)) }
-{
-    Value::from_slice(alloc, body).map_err(refusal_of)
-}
-
-fn refusal_of(error: serde_json::Error) -> Refusal
-    ensures memory { IsMemory error → result ≡ Refusal.Unavailable }
-    ensures text { ¬ IsMemory error → result ≡ Refusal.BodyNotJson }
-{
-    if error.is_memory() {
-        Refusal::Unavailable
-    } else {
-        Refusal::BodyNotJson
-    }
-}
-
-fn are_items<I: Item>(items: &[Value]) -> bool
-    ensures { result ≡ is_some (each_of I.means (items_view items.now)) }
+fn are_items<I: Item>(items: &[Value<'_>]) -> bool
+    ensures { result ≡ is_some (each_of I.means (items_data items.now)) }
 {
     items.iter().all(|item| I::read(item).is_ok())
 }
 
-fn read_items<I: Item>(alloc: Global, items: &[Value]) -> Result<Vec<I>, Refusal>
-    ensures ok { IfOk result (λ list. each_of I.means (items_view items.now) ≡ Some list.items) }
+fn read_items<I: Item>(alloc: Global, items: &[Value<'_>]) -> Result<Vec<I>, Refusal>
+    ensures ok { IfOk result (λ list. each_of I.means (items_data items.now) ≡ Some list.items) }
     ensures err { IfErr result (λ e. e ≢ Refusal.Unavailable → (e ≡ Refusal.BadField)
-        × (each_of I.means (items_view items.now) ≡ None)) }
+        × (each_of I.means (items_data items.now) ≡ None)) }
 {
     let mut list = Vec::new(alloc);
     for item in items {

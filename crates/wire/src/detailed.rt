@@ -1,15 +1,13 @@
 //! Replies that refuse a body and say where.
 ghost use Rattle.std.specs.Prelude.{◌≡◌, ◌≢◌, ◌∷◌, [], false, IfOk, IfSome, IfNone, codes};
-ghost use Rattle.std.specs.String.{string_bytes};
 ghost use Rattle.serde_json.specs.Data as json;
 ghost use Rattle.serde_json.specs.Written.{compact_text};
-ghost use Rattle.ledger_http.specs.declared.content_type.ContentType.TheVariants.{Json};
 ghost use Rattle.ledger_http.specs.declared.refusal.Refusal.TheVariants.{Unavailable};
 ghost use Rattle.ledger_http.specs.declared.reply.Reply.TheVariants.{Fixed};
 ghost use Rattle.ledger_http.specs.declared.refusal.Refusal.{Refusal as ARefusal};
 ghost use Rattle.ledger_http.specs.Question.{Question, question_of};
 ghost use Rattle.ledger_http.specs.RefusalTable.{name_of};
-ghost use Rattle.ledger_http.specs.ReplyText.{head_text, reply_text};
+ghost use Rattle.ledger_http.specs.ReplyText.{reply_text};
 ghost use Rattle.wire.specs.Reply.{fault_data, field_members};
 ghost use Rattle.wire.specs.declared.outcome.Outcome.TheVariants.{Refused};
 ghost use Rattle.wire.specs.Asked.{refused_as};
@@ -18,21 +16,11 @@ ghost use Rattle.wire.specs.Told.{detailed_text, outcome_text};
 use crate::BodyFault;
 use crate::faults::fault_in;
 use crate::members::{Member, object_text};
-use http::StatusCode;
 use ledger_http::{Asked, Refusal, Reply};
 use std::alloc::{AllocError, Global};
 
 /// A name of a field that has more bytes is left out.
 const MAX_NAME: usize = 64;
-
-// All of a reply that stands before its body.
-fn head(alloc: Global, status: StatusCode, length: usize) -> Result<String, AllocError>
-    ensures { IfOk result (λ head. string_bytes head ≡ head_text status Json length) }
-{
-    format!(in alloc;
-        "HTTP/1.1 {status}\r\ncontent-length: {length}\r\ncontent-type: application/json\r\n\r\n"
-    )
-}
 
 // The name of the field, if it is short.
 fn short_name(fault: &BodyFault) -> Option<&str>
@@ -79,9 +67,7 @@ pub(crate) fn detailed_reply(
     ensures { IfOk result (λ reply. reply_text reply ≡ detailed_text refusal fault.now) }
 {
     let body = fault_text(alloc, refusal, fault)?;
-    let mut bytes = head(alloc, refusal.status(), body.len())?.into_bytes();
-    bytes.extend_from_slice(&body)?;
-    Ok(Reply::Whole(bytes.into()))
+    Reply::of_refusal(alloc, refusal, &body)
 }
 
 /// The reply to a request that is refused. Where the request asks for detail, and its body is at

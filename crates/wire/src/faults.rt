@@ -1,22 +1,23 @@
 //! Where the service refuses a body.
 ghost use Rattle.std.specs.Prelude.{◌≡◌, ◌<◌, ◌≢◌, IfOk, IfSome, List, length, ℕ, option_map};
-ghost use Rattle.serde_json.specs.View.{items_view};
 ghost use Rattle.wire.specs.Body.{list_in, object_in};
 ghost use Rattle.wire.specs.Fields.{known_names, object_of};
 ghost use Rattle.wire.specs.Meaning.{meaning_of};
 ghost use Rattle.wire.specs.Misfits.{IsMisfitAt, first_bad};
 ghost use Rattle.wire.specs.Faults.{fault_on, list_fault, object_fault, refusal_in, refused};
 ghost use Rattle.wire.specs.Faults.{told_refusal};
+ghost use Rattle.wire.specs.Trees.{items_data};
 ghost use Rattle.ledger_http.specs.declared.route.Route.{Route as ARoute};
 
-use crate::body::{MAX_ITEMS, read_json};
+use crate::body::MAX_ITEMS;
 use crate::item::Item;
 use crate::misfit::Misfit;
 use crate::object::{Object, read_object};
+use crate::tree::{items, read_json};
 use crate::{BodyFault, Wanted};
+use json::{Scratch, Value};
 use ledger_http::{Refusal, Route};
 use records::{AccountEvent, AccountFilter, PageFilter, QueryFilter, TransferEvent, Unavailable};
-use serde_json::Value;
 use std::alloc::Global;
 
 /// What the service refuses of a body on a route, and where; nothing where it takes the body. It
@@ -26,8 +27,8 @@ pub fn fault_in(alloc: Global, route: Route, body: &[u8]) -> Result<Option<BodyF
     ensures fault { IfOk result (λ fault. fault ≡ fault_on route body.now) }
 {
     match route {
-        Route::Accounts => list_fault::<AccountEvent>(alloc, body),
-        Route::Transfers => list_fault::<TransferEvent>(alloc, body),
+        Route::Accounts | Route::LintAccounts => list_fault::<AccountEvent>(alloc, body),
+        Route::Transfers | Route::LintTransfers => list_fault::<TransferEvent>(alloc, body),
         Route::LookupAccounts | Route::LookupTransfers | Route::LookupPending => list_fault::<u128>(
             alloc, body,
         ),
@@ -52,12 +53,13 @@ fn list_fault<I: Item>(alloc: Global, body: &[u8]) -> Result<Option<BodyFault>, 
         told_refusal fault ≡ refused (list_in I.means body.now)) }
     ensures fault { IfOk result (λ fault. fault ≡ list_fault I.means I.expected body.now) }
 {
-    let value = match read_json(alloc, body) {
+    let mut scratch = Scratch::new(alloc);
+    let value = match read_json(alloc, body, &mut scratch) {
         Ok(value) => value,
         Err(Refusal::Unavailable) => return Err(Unavailable::Memory),
         Err(_) => return Ok(Some(BodyFault::of_body(Wanted::Json))),
     };
-    let Some(items) = value.as_array() else {
+    let Some(items) = items(&value) else {
         return Ok(Some(BodyFault::of_body(Wanted::List)));
     };
     if let Some(fault) = first_fault::<I>(items) {
@@ -77,12 +79,12 @@ struct ItemFault<'a> {
     misfit: Misfit<'a>,
 }
 
-fn first_fault<I: Item>(items: &[Value]) -> Option<ItemFault<'_>>
+fn first_fault<'a, I: Item>(items: &[Value<'a>]) -> Option<ItemFault<'a>>
     ensures place { option_map (λ fault. fault.place) result
-        ≡ first_bad I.means 0 (items_view items.now) }
+        ≡ first_bad I.means 0 (items_data items.now) }
     ensures within { IfSome result (λ fault. fault.place < length items.now) }
     ensures misfit { IfSome result (λ fault.
-        IsMisfitAt I.expected (items_view items.now) fault.place fault.misfit) }
+        IsMisfitAt I.expected (items_data items.now) fault.place fault.misfit) }
 {
     for (place, item) in items.iter().enumerate() {
         if let Err(misfit) = I::read(item) {
@@ -98,7 +100,8 @@ fn object_fault<O: Object>(alloc: Global, body: &[u8]) -> Result<Option<BodyFaul
     ensures fault { IfOk result (λ fault. fault
         ≡ object_fault (object_of (known_names O.fields) O.from_fields) O.fields body.now) }
 {
-    let value = match read_json(alloc, body) {
+    let mut scratch = Scratch::new(alloc);
+    let value = match read_json(alloc, body, &mut scratch) {
         Ok(value) => value,
         Err(Refusal::Unavailable) => return Err(Unavailable::Memory),
         Err(_) => return Ok(Some(BodyFault::of_body(Wanted::Json))),

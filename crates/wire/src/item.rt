@@ -1,16 +1,17 @@
 ghost use Rattle.std.specs.Prelude.{◌≡◌, IfErr, Option};
 ghost use Rattle.std.specs.Result.{result_ok};
 ghost use Rattle.serde_json.specs.Data.{Data};
-ghost use Rattle.serde_json.specs.View.{view};
 ghost use Rattle.wire.specs.Body.{id_of};
 ghost use Rattle.wire.specs.Fields.{known_names, object_of};
 ghost use Rattle.wire.specs.Misfits.{Expected, IsMisfit, an_id, an_object};
+ghost use Rattle.wire.specs.Trees.{tree_data};
 
 use crate::Wanted;
 use crate::fields::read_number;
 use crate::misfit::Misfit;
 use crate::object::{Object, read_object};
-use serde_json::Value;
+use crate::tree::text;
+use json::Value;
 
 /// What a list in a body is made of.
 pub(crate) trait Item: Drop {
@@ -18,9 +19,9 @@ pub(crate) trait Item: Drop {
 
     ghost expected: { Expected };
 
-    fn read(value: &Value) -> Result<Self, Misfit<'_>>
-        ensures value { result_ok result ≡ means (view value.now) }
-        ensures misfit { IfErr result (IsMisfit expected (view value.now)) };
+    fn read<'a>(value: &Value<'a>) -> Result<Self, Misfit<'a>>
+        ensures value { result_ok result ≡ means (tree_data value.now) }
+        ensures misfit { IfErr result (IsMisfit expected (tree_data value.now)) };
 }
 
 /// An event is an object of known fields.
@@ -29,7 +30,7 @@ impl<O: Object> Item for O {
 
     ghost expected = { an_object O.fields };
 
-    fn read(value: &Value) -> Result<O, Misfit<'_>> {
+    fn read<'a>(value: &Value<'a>) -> Result<O, Misfit<'a>> {
         read_object(value)
     }
 }
@@ -40,13 +41,13 @@ impl Item for u128 {
 
     ghost expected = { an_id };
 
-    fn read(value: &Value) -> Result<u128, Misfit<'_>> {
+    fn read<'a>(value: &Value<'a>) -> Result<u128, Misfit<'a>> {
         id_in(value).ok_or(Misfit::of_value(Wanted::Digits128))
     }
 }
 
-fn id_in(value: &Value) -> Option<u128>
-    ensures { result ≡ id_of (view value.now) }
+fn id_in(value: &Value<'_>) -> Option<u128>
+    ensures { result ≡ id_of (tree_data value.now) }
 {
-    read_number(value.as_str()?)
+    read_number(text(value)?)
 }

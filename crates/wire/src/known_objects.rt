@@ -2,21 +2,21 @@
 
 ghost use Rattle.std.specs.Prelude.{◌≡◌, IfErr, option_map};
 ghost use Rattle.std.specs.Result.{result_err, result_ok};
-ghost use Rattle.serde_json.specs.View.{view};
 ghost use Rattle.wire.specs.KnownObjects.{account_fields, account_from, filter_fields, filter_from};
 ghost use Rattle.wire.specs.KnownObjects.{page_fields, page_from, query_fields, query_from};
 ghost use Rattle.wire.specs.KnownObjects.{tag_fields, tags_from, transfer_fields, transfer_from};
 ghost use Rattle.wire.specs.Misfits.{bad_number, told_by};
+ghost use Rattle.wire.specs.Trees.{tree_data};
 
 use crate::fields::{flags_field, limit_field, u16_field, u32_field, u64_field, u128_field};
 use crate::misfit::Misfit;
 use crate::object::Object;
 use amount::Amount;
+use json::Value;
 use records::{
     AccountEvent, AccountFilter, AccountFlags, FilterFlags, PageFilter, PageFlags, QueryFilter,
     Tags, TransferEvent, TransferFlags,
 };
-use serde_json::Value;
 
 /// The flags that mean something: in the filter of a history debits, credits, newest first.
 const FILTER_FLAGS: u16 = 0b111;
@@ -48,7 +48,7 @@ impl Object for AccountEvent {
     }
 
     #[tactic(auto, unfolding(crate::specs::KnownObjects::account_from))]
-    fn read_fields(object: &Value) -> Result<AccountEvent, Misfit<'static>> {
+    fn read_fields(object: &Value<'_>) -> Result<AccountEvent, Misfit<'static>> {
         let tags = read_tags(object)?;
         Ok(AccountEvent {
             id: u128_field(object, "id")?,
@@ -92,7 +92,7 @@ impl Object for TransferEvent {
     }
 
     #[tactic(auto, unfolding(crate::specs::KnownObjects::transfer_from))]
-    fn read_fields(object: &Value) -> Result<TransferEvent, Misfit<'static>> {
+    fn read_fields(object: &Value<'_>) -> Result<TransferEvent, Misfit<'static>> {
         let tags = read_tags(object)?;
         Ok(TransferEvent {
             id: u128_field(object, "id")?,
@@ -125,7 +125,7 @@ impl Object for AccountFilter {
     }
 
     #[tactic(auto, unfolding(crate::specs::KnownObjects::filter_from))]
-    fn read_fields(object: &Value) -> Result<AccountFilter, Misfit<'static>> {
+    fn read_fields(object: &Value<'_>) -> Result<AccountFilter, Misfit<'static>> {
         Ok(AccountFilter {
             account_id: u128_field(object, "account_id")?,
             timestamp_min: u64_field(object, "timestamp_min")?,
@@ -145,7 +145,7 @@ impl Object for PageFilter {
         matches!(name, "timestamp_min" | "timestamp_max" | "limit" | "flags")
     }
 
-    fn read_fields(object: &Value) -> Result<PageFilter, Misfit<'static>> {
+    fn read_fields(object: &Value<'_>) -> Result<PageFilter, Misfit<'static>> {
         read_page(object)
     }
 }
@@ -171,7 +171,7 @@ impl Object for QueryFilter {
     }
 
     #[tactic(auto, unfolding(crate::specs::KnownObjects::query_from))]
-    fn read_fields(object: &Value) -> Result<QueryFilter, Misfit<'static>> {
+    fn read_fields(object: &Value<'_>) -> Result<QueryFilter, Misfit<'static>> {
         Ok(QueryFilter {
             tags: read_tags(object)?,
             page: read_page(object)?,
@@ -180,9 +180,9 @@ impl Object for QueryFilter {
 }
 
 #[tactic(auto, unfolding(crate::specs::KnownObjects::page_from))]
-fn read_page(object: &Value) -> Result<PageFilter, Misfit<'static>>
-    ensures value { result_ok result ≡ page_from (view object.now) }
-    ensures misfit { bad_number page_fields (view object.now)
+fn read_page(object: &Value<'_>) -> Result<PageFilter, Misfit<'static>>
+    ensures value { result_ok result ≡ page_from (tree_data object.now) }
+    ensures misfit { bad_number page_fields (tree_data object.now)
         ≡ option_map told_by (result_err result) }
 {
     Ok(PageFilter {
@@ -194,9 +194,9 @@ fn read_page(object: &Value) -> Result<PageFilter, Misfit<'static>>
 }
 
 #[tactic(auto, unfolding(crate::specs::KnownObjects::tags_from))]
-fn read_tags(object: &Value) -> Result<Tags, Misfit<'static>>
-    ensures value { result_ok result ≡ tags_from (view object.now) }
-    ensures misfit { bad_number tag_fields (view object.now)
+fn read_tags(object: &Value<'_>) -> Result<Tags, Misfit<'static>>
+    ensures value { result_ok result ≡ tags_from (tree_data object.now) }
+    ensures misfit { bad_number tag_fields (tree_data object.now)
         ≡ option_map told_by (result_err result) }
 {
     Ok(Tags {

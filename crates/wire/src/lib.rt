@@ -23,6 +23,7 @@ mod refusal;
 mod reply_result;
 mod request;
 mod shown;
+mod tree;
 mod wanted;
 mod writing;
 

@@ -56,4 +56,6 @@ pub enum Outcome {
     },
     /// The chunks of a statement, as CSV.
     Statement(Items<u8>),
+    /// A body that is judged and not booked is good, and has this many events.
+    Linted(usize),
 }

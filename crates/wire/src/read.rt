@@ -24,4 +24,6 @@ pub enum Read {
     LookupPending(Items<u128>),
     /// The id of the account.
     Statement(u128),
+    /// How many events a good body has that is judged and not booked.
+    Lint(usize),
 }

@@ -31,6 +31,8 @@ pub fn meaning(alloc: Global, asked: &Asked) -> Result<Request, Refusal>
         Route::LookupPending => Read::LookupPending(read_ids(alloc, asked.body)?.into()),
         Route::OpenPending => Read::Query(Query::OpenPending(read_one(alloc, asked.body)?)),
         Route::Statement => Read::Statement(read_account(asked.account)?),
+        Route::LintAccounts => Read::Lint(read_accounts(alloc, asked.body)?.len()),
+        Route::LintTransfers => Read::Lint(read_transfers(alloc, asked.body)?.len()),
     }))
 }
 

@@ -3,6 +3,7 @@
 
 mod deep;
 mod detail;
+mod judging;
 mod pages;
 mod reading;
 mod writing;

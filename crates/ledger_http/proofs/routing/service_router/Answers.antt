@@ -47,6 +47,14 @@ pub add-requires-11 : goal.add-requires-11
 unfolding matchit_on_literals
 add-requires-11 c = rw (c.in_ok-add-10.ensures.ok, c.in_ok-add-9.ensures.ok, c.in_ok-add-8.ensures.ok, c.in_ok-add-7.ensures.ok, c.in_ok-add-6.ensures.ok, c.in_ok-add-5.ensures.ok, c.in_ok-add-4.ensures.ok, c.in_ok-add-3.ensures.ok, c.in_ok-add-2.ensures.ok, c.in_ok-add.ensures.ok, c.new-router.ensures) (_, refl, refl)
 
+pub add-requires-12 : goal.add-requires-12
+unfolding matchit_on_literals
+add-requires-12 c = rw (c.in_ok-add-11.ensures.ok, c.in_ok-add-10.ensures.ok, c.in_ok-add-9.ensures.ok, c.in_ok-add-8.ensures.ok, c.in_ok-add-7.ensures.ok, c.in_ok-add-6.ensures.ok, c.in_ok-add-5.ensures.ok, c.in_ok-add-4.ensures.ok, c.in_ok-add-3.ensures.ok, c.in_ok-add-2.ensures.ok, c.in_ok-add.ensures.ok, c.new-router.ensures) (_, refl, refl)
+
+pub add-requires-13 : goal.add-requires-13
+unfolding matchit_on_literals
+add-requires-13 c = rw (c.in_ok-add-12.ensures.ok, c.in_ok-add-11.ensures.ok, c.in_ok-add-10.ensures.ok, c.in_ok-add-9.ensures.ok, c.in_ok-add-8.ensures.ok, c.in_ok-add-7.ensures.ok, c.in_ok-add-6.ensures.ok, c.in_ok-add-5.ensures.ok, c.in_ok-add-4.ensures.ok, c.in_ok-add-3.ensures.ok, c.in_ok-add-2.ensures.ok, c.in_ok-add.ensures.ok, c.new-router.ensures) (_, refl, refl)
+
 pub returns-clause-ok : goal.returns-clause-ok
 unfolding matchit_on_literals service_rows
-returns-clause-ok c = rw (c.in_ok-add-11.ensures.ok, c.in_ok-add-10.ensures.ok, c.in_ok-add-9.ensures.ok, c.in_ok-add-8.ensures.ok, c.in_ok-add-7.ensures.ok, c.in_ok-add-6.ensures.ok, c.in_ok-add-5.ensures.ok, c.in_ok-add-4.ensures.ok, c.in_ok-add-3.ensures.ok, c.in_ok-add-2.ensures.ok, c.in_ok-add.ensures.ok, c.new-router.ensures)
+returns-clause-ok c = rw (c.in_ok-add-13.ensures.ok, c.in_ok-add-12.ensures.ok, c.in_ok-add-11.ensures.ok, c.in_ok-add-10.ensures.ok, c.in_ok-add-9.ensures.ok, c.in_ok-add-8.ensures.ok, c.in_ok-add-7.ensures.ok, c.in_ok-add-6.ensures.ok, c.in_ok-add-5.ensures.ok, c.in_ok-add-4.ensures.ok, c.in_ok-add-3.ensures.ok, c.in_ok-add-2.ensures.ok, c.in_ok-add.ensures.ok, c.new-router.ensures)

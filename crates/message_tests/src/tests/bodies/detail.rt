@@ -14,7 +14,7 @@ const LONG: [&str; 2] = [
 ];
 
 /// Bodies that are refused on a route, and the bodies of the replies that say where.
-const REFUSED: [(Route, &str, Refusal, &str); 12] = [
+const REFUSED: [(Route, &str, Refusal, &str); 14] = [
     (
         Route::Transfers,
         "[{}",
@@ -80,6 +80,18 @@ const REFUSED: [(Route, &str, Refusal, &str); 12] = [
         r#"{"limit":1,"flags":2,"code":-1}"#,
         Refusal::BadField,
         r#"{"error":"bad_field","field":"code","want":"a whole number below 65536"}"#,
+    ),
+    (
+        Route::LintAccounts,
+        r#"[{},{"code":65536}]"#,
+        Refusal::BadField,
+        r#"{"error":"bad_field","event":2,"field":"code","want":"a whole number below 65536"}"#,
+    ),
+    (
+        Route::LintTransfers,
+        r#"[{"credits_posted":"0"}]"#,
+        Refusal::BadField,
+        r#"{"error":"bad_field","event":1,"field":"credits_posted","want":"known fields only"}"#,
     ),
     // Where a path is at fault, and not the body, the reply says nothing more.
     (

@@ -11,7 +11,7 @@ use std::test::Fail;
 use tenants::Key;
 use wire::{Read, Request, meaning, read_accounts, read_transfers};
 
-pub(super) const POSTS: [Route; 10] = [
+pub(super) const POSTS: [Route; 12] = [
     Route::Accounts,
     Route::Transfers,
     Route::LookupAccounts,
@@ -22,6 +22,8 @@ pub(super) const POSTS: [Route; 10] = [
     Route::QueryTransfers,
     Route::LookupPending,
     Route::OpenPending,
+    Route::LintAccounts,
+    Route::LintTransfers,
 ];
 
 const NOT_JSON: [&[u8]; 10] = [
@@ -132,7 +134,8 @@ const LISTS: [(Route, &[u8], &[u128]); 5] = [
     (Route::LookupPending, IDS, &[2, 0, 2, u128::MAX]),
 ];
 
-const EVENTS: &[u8] = br#" [{}, {"\u0069d":"\u0031"}] "#;
+/// Two events.
+pub(super) const EVENTS: &[u8] = br#" [{}, {"\u0069d":"\u0031"}] "#;
 
 const IDS: &[u8] = br#"["2","0","\u0032","340282366920938463463374607431768211455"]"#;
 
@@ -314,10 +317,14 @@ fn refuses_bad_bodies(rt: HostRuntime) {
     for route in POSTS {
         refuses(&rt, route, &NOT_JSON, Refusal::BodyNotJson);
     }
-    refuses(&rt, Route::Accounts, &BAD_EVENTS, Refusal::BadField);
-    refuses(&rt, Route::Accounts, &BAD_ACCOUNTS, Refusal::BadField);
-    refuses(&rt, Route::Transfers, &BAD_EVENTS, Refusal::BadField);
-    refuses(&rt, Route::Transfers, &BAD_TRANSFERS, Refusal::BadField);
+    for route in [Route::Accounts, Route::LintAccounts] {
+        refuses(&rt, route, &BAD_EVENTS, Refusal::BadField);
+        refuses(&rt, route, &BAD_ACCOUNTS, Refusal::BadField);
+    }
+    for route in [Route::Transfers, Route::LintTransfers] {
+        refuses(&rt, route, &BAD_EVENTS, Refusal::BadField);
+        refuses(&rt, route, &BAD_TRANSFERS, Refusal::BadField);
+    }
     for route in [
         Route::LookupAccounts,
         Route::LookupTransfers,

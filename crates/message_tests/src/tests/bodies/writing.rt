@@ -217,6 +217,17 @@ fn tells_statements(rt: HostRuntime) -> Result<(), Fail> {
 }
 
 #[test]
+fn tells_how_many_events_are_good(rt: HostRuntime) -> Result<(), Fail> {
+    for (events, length, body) in [
+        (0, "12", r#"{"events":0}"#),
+        (1000, "15", r#"{"events":1000}"#),
+    ] {
+        is_json(&rt, Outcome::Linted(events), length, body)?;
+    }
+    Ok(())
+}
+
+#[test]
 fn tells_refusals(rt: HostRuntime) -> Result<(), Fail> {
     let text = concat!(
         "HTTP/1.1 401 Unauthorized\r\ncontent-length: 23\r\n",

@@ -42,7 +42,7 @@ fn refuses_odd_bytes(rt: HostRuntime) {
 }
 
 // A request line, its route, and the account in its path.
-const REQUESTS: [(&str, Route, &str); 13] = [
+const REQUESTS: [(&str, Route, &str); 15] = [
     ("POST /accounts", Route::Accounts, ""),
     ("POST /transfers", Route::Transfers, ""),
     ("POST /accounts/lookup", Route::LookupAccounts, ""),
@@ -53,6 +53,8 @@ const REQUESTS: [(&str, Route, &str); 13] = [
     ("POST /query/transfers", Route::QueryTransfers, ""),
     ("POST /pending/lookup", Route::LookupPending, ""),
     ("POST /pending/open", Route::OpenPending, ""),
+    ("POST /lint/accounts", Route::LintAccounts, ""),
+    ("POST /lint/transfers", Route::LintTransfers, ""),
     ("GET /statement/1", Route::Statement, "1"),
     ("GET /statement/1?x", Route::Statement, "1?x"),
     ("GET /statement/é%2f", Route::Statement, "é%2f"),
@@ -76,6 +78,22 @@ fn reads_requests(rt: HostRuntime) -> Result<(), AllocError> {
         holds(&rt, line, request.route == route && request.key == key);
         holds(&rt, line, request.account.as_bytes() == account.as_bytes());
         holds(&rt, line, request.body == b"[]".as_slice());
+    }
+    Ok(())
+}
+
+// Where a body is judged alone detail is asked for, and on the other routes it is not.
+#[test]
+fn asks_for_detail_where_a_body_is_judged(rt: HostRuntime) -> Result<(), AllocError> {
+    let headers = format!(in rt.alloc(); "{HEADERS}{KEY}")?;
+    for (line, route, _) in REQUESTS {
+        let text = message(&rt, line, &headers, "[]")?;
+        let Ok(request) = asked(rt.alloc(), text.as_bytes()) else {
+            panic!(rt; "refused: {line}");
+        };
+        let judged = line.starts_with("POST /lint/");
+        holds(&rt, line, request.detail == judged);
+        holds(&rt, line, route.is_lint() == judged);
     }
     Ok(())
 }

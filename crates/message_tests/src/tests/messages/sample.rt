@@ -15,7 +15,7 @@ pub(crate) const KEY: &str =
 pub(crate) type Refused = (&'static str, &'static str, &'static str, Refusal);
 
 // Each refusal, and where one message meets several, the one that comes first.
-static REFUSED: [Refused; 66] = [
+static REFUSED: [Refused; 72] = [
     // Heads that are not good, whatever else is wrong with them.
     ("GET /\u{7f}", "", "", Refusal::BadHead),
     ("POST / HTTP/1.0\r\na: b", "", "", Refusal::BadHead),
@@ -251,6 +251,28 @@ static REFUSED: [Refused; 66] = [
         "content-length: 0\r\n",
         "",
         Refusal::BadMethod,
+    ),
+    // What is near the paths on which bodies are judged, and those paths by another method.
+    ("POST /lint", "content-length: 0\r\n", "", Refusal::NoRoute),
+    (
+        "POST /lint/pending",
+        "content-length: 0\r\n",
+        "",
+        Refusal::NoRoute,
+    ),
+    (
+        "POST /lint/transfers/",
+        "content-length: 0\r\n",
+        "",
+        Refusal::NoRoute,
+    ),
+    ("GET /lint/transfers", "", "", Refusal::BadMethod),
+    ("GET /lint/accounts", "", "", Refusal::BadMethod),
+    (
+        "POST /lint/transfers",
+        "content-length: 0\r\n",
+        "",
+        Refusal::UnknownKey,
     ),
     // Health by another method, and what is near its path.
     ("POST /health", "", "", Refusal::LengthRequired),

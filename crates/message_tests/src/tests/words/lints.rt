@@ -98,12 +98,13 @@ fn tells_what_is_refused(rt: HostRuntime) -> Result<(), Fail> {
     Ok(())
 }
 
-const GOOD: [(&str, &str); 5] = [
+const GOOD: [(&str, &str); 6] = [
     ("/transfers", r#"[{"id":"1","amount":"10","ledger":978}]"#),
     ("/accounts", "[]"),
     ("/transfers/lookup", r#"["1"]"#),
     ("/history/balances", r#"{"account_id":"1","limit":1000}"#),
     ("/query/transfers", r#"{"limit":1}"#),
+    ("/lint/transfers", r#"[{"id":"1"}]"#),
 ];
 
 #[test]

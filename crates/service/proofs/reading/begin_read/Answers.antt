@@ -36,3 +36,7 @@ returns-in-Query g c moment =
 pub returns-in-Statement : goal.returns-in-Statement
 returns-in-Statement g c moment =
     begins_as_read c.in-Statement.is (c.begin_statement.ensures moment)
+
+pub returns-in-Lint : goal.returns-in-Lint
+returns-in-Lint g c moment =
+    begins_as_read c.in-Lint.is (c.begin_lint.ensures moment)

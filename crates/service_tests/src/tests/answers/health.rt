@@ -39,6 +39,8 @@ North POST /query/accounts {"limit":1} => unavailable 503 Service Unavailable
 North POST /query/transfers {"limit":1} => unavailable 503 Service Unavailable
 North POST /pending/lookup [] => unavailable 503 Service Unavailable
 North POST /pending/open {"limit":1} => unavailable 503 Service Unavailable
+North POST /lint/accounts [] => unavailable 503 Service Unavailable
+North POST /lint/transfers [] => unavailable 503 Service Unavailable
 North GET /statement/1 => unavailable 503 Service Unavailable
 North POST /transfers no list => unavailable 503 Service Unavailable"#;
 

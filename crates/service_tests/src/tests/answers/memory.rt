@@ -11,6 +11,7 @@ North transfers 100: 1>2 70 flags=3; 101: post=100 MAX => clock 6: 0@5 0@6
 North GET /statement/1 => csv 5,100,debit,pending,70,70,0,0,0 6,101,debit,post,70,0,70,0,0
 North POST /pending/lookup ["100"]
    => {"clock":"6","pending":[{"due":"0","id":"100","state":"posted"}]}
+North POST /lint/transfers [{"id":"1"}] => {"events":1}
 North POST /query/accounts {"limit":1,"timestamp_min":"4"} => {"accounts":[{"code":10,
   "credits_pending":"0","credits_posted":"0","debits_pending":"0","debits_posted":"0","flags":0,
   "id":"4","ledger":7,"timestamp":"4","user_data_128":"0","user_data_32":0,

@@ -23,6 +23,20 @@ North detail /history/balances {"account_id":"9","flags":3,"limit":10} => no_acc
 North detail /accounts/lookup [] => {"accounts":[],"clock":"4"}
 South detail /transfers no list => unknown_key 401 Unauthorized
 
+# bodies that are judged and not booked, which needs a key
+North POST /lint/transfers [{"id":"1"},{"id":"1"}] => {"events":2}
+North POST /lint/accounts [] => {"events":0}
+North POST /lint/transfers [{},{"id":"1","amount":1}] => 400 Bad Request: {"error":"bad_field",
+  "event":2,"field":"amount","want":"a string of decimal digits, with no zero in front, below 2^128"}
+North POST /lint/accounts [{"amount":"1"}] => 400 Bad Request: {"error":"bad_field","event":1,
+  "field":"amount","want":"known fields only"}
+North detail /lint/transfers [{"id":"1"] => 400 Bad Request: {"error":"body_not_json","want":"JSON"}
+North@9 POST /accounts/lookup [] => {"accounts":[],"clock":"4"}
+North@9 POST /transfers/lookup ["1"] => {"clock":"4","transfers":[]}
+North GET /lint/transfers => bad_method 405 Method Not Allowed
+South POST /lint/transfers [] => unknown_key 401 Unauthorized
+South POST /lint/accounts no list => unknown_key 401 Unauthorized
+
 # at the path of the console
 North POST / => bad_method 405 Method Not Allowed
 North GET /?x => no_route 404 Not Found

@@ -45,6 +45,14 @@ pub(crate) fn has_heard(peers: &Scripted, number: usize, text: &[u8]) -> bool {
     }
 }
 
+/// Whether a client's replies were these, each of which was handed over before it was written.
+fn was_handed(peers: &Scripted, number: usize, text: &[u8]) -> bool {
+    match peers.peer(number) {
+        Some(peer) => peer.handed.as_slice() == text && !peer.is_ahead,
+        None => false,
+    }
+}
+
 #[test]
 fn two_that_are_ready_at_once_are_written_behind_one_round(rt: HostRuntime) -> Result<(), Fail> {
     let to_first = Firms::with(rt.alloc(), &KEYS)?.serve_alone(OF_FIRST.as_bytes());
@@ -112,6 +120,7 @@ fn batches_are_told_with_their_replies(rt: HostRuntime) -> Result<(), Fail> {
     let mut peers = clients(&rt, &[OF_SECOND])?;
     assert!(rt; firms.serve_ready(&mut peers, 99) == 3);
     assert!(rt; peers.batches.get() == (0, 2, TO_SECOND.len() - TO_CUT.len()));
+    assert!(rt; was_handed(&peers, 0, TO_SECOND.as_bytes()));
     Ok(())
 }
 
@@ -123,6 +132,7 @@ fn batches_of_a_round_are_told_too(rt: HostRuntime) -> Result<(), Fail> {
     assert!(rt; peers.shared.get() > 0);
     let (accounts, transfers, _) = peers.batches.get();
     assert!(rt; (accounts, transfers) == (1, 3));
+    assert!(rt; was_handed(&peers, 2, TO_SECOND.as_bytes()));
     Ok(())
 }
 

@@ -11,6 +11,10 @@ use std::cell::Cell;
 pub(crate) struct Peer<'a> {
     sends: &'a [u8],
     pub(crate) heard: Vec<u8>,
+    /// The replies that were handed over, one after the other; of a statement its first part.
+    pub(crate) handed: Vec<u8>,
+    /// Whether it was to be written more than was handed over by then.
+    pub(crate) is_ahead: bool,
     /// Whether it was not let go.
     pub(crate) is_open: bool,
     /// Whether its next reading or writing would wait.
@@ -32,6 +36,8 @@ impl<'a> Peer<'a> {
         Peer {
             sends,
             heard: Vec::new(alloc),
+            handed: Vec::new(alloc),
+            is_ahead: false,
             is_open: true,
             waits: false,
             never_waits: false,
@@ -151,7 +157,13 @@ impl Peers for Scripted<'_> {
         self.shared.set(self.shared.get().saturating_add(messages));
     }
 
-    fn answered(&self, batch: Batch, reply: &[u8]) {
+    fn answered(&mut self, client: u64, batch: Option<Batch>, reply: &[u8]) {
+        if let Some(peer) = self.peer_mut(client) {
+            let _ = peer.handed.extend_from_slice(reply);
+        }
+        let Some(batch) = batch else {
+            return;
+        };
         let (accounts, transfers, bytes) = self.batches.get();
         let bytes = bytes.saturating_add(reply.len());
         self.batches.set(match batch {
@@ -192,6 +204,9 @@ impl Peers for Scripted<'_> {
         let Some(peer) = self.peer_mut(client) else {
             return Written::Broken;
         };
+        if peer.heard.len().saturating_add(bytes.len()) > peer.handed.len() {
+            peer.is_ahead = true;
+        }
         if peer.written_at.is_none() {
             peer.written_at = Some(told);
         }

@@ -13,25 +13,25 @@ pub returns-in_err-items-clause-err : goal.returns-in_err-items-clause-err
 unfolding list_in
 returns-in_err-items-clause-err g c = grind (arith, common_steps)
 
-pub returns-then-len-le-MAX_ITEMS-clause-ok : goal.returns-then-len-le-MAX_ITEMS-clause-ok
-returns-then-len-le-MAX_ITEMS-clause-ok g c =
-    let few : length c.deref.result.now ≤ 1000 = omega arith in
+pub returns-then-items-le-MAX_ITEMS-clause-ok : goal.returns-then-items-le-MAX_ITEMS-clause-ok
+returns-then-items-le-MAX_ITEMS-clause-ok g c =
+    let few : length c.in_ok-items.items.now ≤ 1000 = omega arith in
     IfOk-weaker c.read_items.result _ _
     (λ list is. list_in_few g.I.Item.means _ _ list.items
-    (has_items c.args.body.now _ c.deref.result.now c.in_ok-value.ensures.ok (search rules)) few is)
+    (has_items c.args.body.now _ c.in_ok-items.items.now c.in_ok-value.ensures.ok (search rules)) few is)
     c.read_items.ensures.ok
 
-pub returns-then-len-le-MAX_ITEMS-clause-few : goal.returns-then-len-le-MAX_ITEMS-clause-few
-returns-then-len-le-MAX_ITEMS-clause-few g c =
-    let items = c.deref.result.now in
+pub returns-then-items-le-MAX_ITEMS-clause-few : goal.returns-then-items-le-MAX_ITEMS-clause-few
+returns-then-items-le-MAX_ITEMS-clause-few g c =
+    let items = c.in_ok-items.items.now in
     let few : length items ≤ 1000 = omega arith in
     IfOk-weaker c.read_items.result _ _
     (λ list is. omega (arith, length-each_of g.I.Item.means items list.items is))
     c.read_items.ensures.ok
 
-pub returns-then-len-le-MAX_ITEMS-clause-err : goal.returns-then-len-le-MAX_ITEMS-clause-err
-returns-then-len-le-MAX_ITEMS-clause-err g c =
-    let items = c.deref.result.now in
+pub returns-then-items-le-MAX_ITEMS-clause-err : goal.returns-then-items-le-MAX_ITEMS-clause-err
+returns-then-items-le-MAX_ITEMS-clause-err g c =
+    let items = c.in_ok-items.items.now in
     let has = has_items c.args.body.now _ items c.in_ok-value.ensures.ok (search rules) in
     IfErr-weaker c.read_items.result _ _
     (λ e refused available.
@@ -41,13 +41,13 @@ returns-then-len-le-MAX_ITEMS-clause-err g c =
 
 pub returns-then-are_items-clause-err : goal.returns-then-are_items-clause-err
 returns-then-are_items-clause-err g c =
-    let items = c.deref-2.result.now in
+    let items = c.in_ok-items.items.now in
     let has = has_items c.args.body.now _ items c.in_ok-value.ensures.ok (search rules) in
     let many : 1000 < length items = omega arith in
     λ _. list_in_many g.I.Item.means c.args.body.now items has many (search rules)
 
 pub returns-clause-err : goal.returns-clause-err
 returns-clause-err g c =
-    let items = c.deref-2.result.now in
+    let items = c.in_ok-items.items.now in
     let has = has_items c.args.body.now _ items c.in_ok-value.ensures.ok (search rules) in
     λ _. list_in_bad g.I.Item.means c.args.body.now items has (search rules)

@@ -27,6 +27,8 @@ told route.QueryTransfers account body other = same _ (query_in body)
 told route.LookupPending account body other = same _ (ids_in body)
 told route.OpenPending account body other = same _ (page_in body)
 told route.Statement account body other = absurd (other refl)
+told route.LintAccounts account body other = same _ (accounts_in body)
+told route.LintTransfers account body other = same _ (transfers_in body)
 
 pub returns : goal.returns
 returns c = told

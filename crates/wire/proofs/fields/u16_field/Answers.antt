@@ -1,11 +1,11 @@
 use Rattle.std.proofs.Common.{sym, ap, ◌∙◌}
 use Rattle.std.specs.Prelude.{is_none}
-use Rattle.serde_json.specs.View.{view}
+use Rattle.wire.specs.Trees.{tree_data}
 use Rattle.wire.proofs.Misfits.{number_or}
 use Rattle.wire.proofs.fields.u16_field.Goals as goal
 
 pub returns-clause-misfit : goal.returns-clause-misfit
 returns-clause-misfit c =
-    number_or (view c.args.object.now) _ _ _ _ _
+    number_or (tree_data c.args.object.now) _ _ _ _ _
     c.ok_or.ensures.value c.of_field.ensures.field c.of_field.ensures.wanted
     (λ none. ap is_none (sym c.whole_16.ensures ∙ none))

@@ -1,10 +1,10 @@
 use Rattle.std.proofs.Common.{[], ◌∷◌, ◌^◌, codes, Err, sym, ap, ◌∙◌}
 use Rattle.std.specs.Prelude.{is_none}
 use Rattle.std.proofs.lemmas.Result.{err_from_is_err_and}
-use Rattle.serde_json.specs.View.{view}
 use Rattle.wire.specs.declared.wanted.Wanted.TheVariants.{Digits128, Digits64, WholeBelow}
 use Rattle.wire.specs.Fields.{KnownFields}
 use Rattle.wire.specs.KnownObjects.{tag_fields}
+use Rattle.wire.specs.Trees.{tree_data}
 use Rattle.wire.proofs.Misfits.{after_good, after_one, at_bad, in_first}
 use Rattle.wire.proofs.known_objects.AccountEventObject.read_fields.Goals as goal
 
@@ -34,11 +34,11 @@ pub returns-in_err-tags-clause-misfit : goal.returns-in_err-tags-clause-misfit
 returns-in_err-tags-clause-misfit c =
     let p = err_from_is_err_and c.from_residual.result c.from_residual.ensures.1 in
     rw (p.1 ∙ ap Err p.2)
-    (in_first tag_fields from_id (view c.args.object.now) _ c.in_err-tags.ensures.misfit)
+    (in_first tag_fields from_id (tree_data c.args.object.now) _ c.in_err-tags.ensures.misfit)
 
 pub returns-in_err-u128_field-clause-misfit : goal.returns-in_err-u128_field-clause-misfit
 returns-in_err-u128_field-clause-misfit c =
-    let d = view c.args.object.now in
+    let d = tree_data c.args.object.now in
     let p = err_from_is_err_and c.from_residual-in_err-u128_field.result c.from_residual-in_err-u128_field.ensures.1 in
     rw (p.1 ∙ ap Err p.2)
     (after_good tag_fields from_id d _ c.in_ok-tags.ensures.misfit
@@ -47,7 +47,7 @@ returns-in_err-u128_field-clause-misfit c =
 
 pub returns-in_err-u128_field-2-clause-misfit : goal.returns-in_err-u128_field-2-clause-misfit
 returns-in_err-u128_field-2-clause-misfit c =
-    let d = view c.args.object.now in
+    let d = tree_data c.args.object.now in
     let p = err_from_is_err_and c.from_residual-in_err-u128_field-2.result c.from_residual-in_err-u128_field-2.ensures.1 in
     rw (p.1 ∙ ap Err p.2)
     (after_good tag_fields from_id d _ c.in_ok-tags.ensures.misfit
@@ -58,7 +58,7 @@ returns-in_err-u128_field-2-clause-misfit c =
 
 pub returns-in_err-u128_field-3-clause-misfit : goal.returns-in_err-u128_field-3-clause-misfit
 returns-in_err-u128_field-3-clause-misfit c =
-    let d = view c.args.object.now in
+    let d = tree_data c.args.object.now in
     let p = err_from_is_err_and c.from_residual-in_err-u128_field-3.result c.from_residual-in_err-u128_field-3.ensures.1 in
     rw (p.1 ∙ ap Err p.2)
     (after_good tag_fields from_id d _ c.in_ok-tags.ensures.misfit
@@ -71,7 +71,7 @@ returns-in_err-u128_field-3-clause-misfit c =
 
 pub returns-in_err-u128_field-4-clause-misfit : goal.returns-in_err-u128_field-4-clause-misfit
 returns-in_err-u128_field-4-clause-misfit c =
-    let d = view c.args.object.now in
+    let d = tree_data c.args.object.now in
     let p = err_from_is_err_and c.from_residual-in_err-u128_field-4.result c.from_residual-in_err-u128_field-4.ensures.1 in
     rw (p.1 ∙ ap Err p.2)
     (after_good tag_fields from_id d _ c.in_ok-tags.ensures.misfit
@@ -86,7 +86,7 @@ returns-in_err-u128_field-4-clause-misfit c =
 
 pub returns-in_err-u128_field-5-clause-misfit : goal.returns-in_err-u128_field-5-clause-misfit
 returns-in_err-u128_field-5-clause-misfit c =
-    let d = view c.args.object.now in
+    let d = tree_data c.args.object.now in
     let p = err_from_is_err_and c.from_residual-in_err-u128_field-5.result c.from_residual-in_err-u128_field-5.ensures.1 in
     rw (p.1 ∙ ap Err p.2)
     (after_good tag_fields from_id d _ c.in_ok-tags.ensures.misfit
@@ -103,7 +103,7 @@ returns-in_err-u128_field-5-clause-misfit c =
 
 pub returns-in_err-u16_field-clause-misfit : goal.returns-in_err-u16_field-clause-misfit
 returns-in_err-u16_field-clause-misfit c =
-    let d = view c.args.object.now in
+    let d = tree_data c.args.object.now in
     let p = err_from_is_err_and c.from_residual-in_err-u16_field.result c.from_residual-in_err-u16_field.ensures.1 in
     rw (p.1 ∙ ap Err p.2)
     (after_good tag_fields from_id d _ c.in_ok-tags.ensures.misfit
@@ -122,7 +122,7 @@ returns-in_err-u16_field-clause-misfit c =
 
 pub returns-in_err-u64_field-clause-misfit : goal.returns-in_err-u64_field-clause-misfit
 returns-in_err-u64_field-clause-misfit c =
-    let d = view c.args.object.now in
+    let d = tree_data c.args.object.now in
     let p = err_from_is_err_and c.from_residual-in_err-u64_field.result c.from_residual-in_err-u64_field.ensures.1 in
     rw (p.1 ∙ ap Err p.2)
     (after_good tag_fields from_id d _ c.in_ok-tags.ensures.misfit
