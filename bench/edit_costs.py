@@ -5,10 +5,9 @@
 FILE is what `make prove` printed, or the file in which `make run` keeps how long each crate took,
 out/prove/seconds.json, which is read if no FILE is given. The greatest of several figures of a crate
 counts, since the others may be of runs that took over what was proved. Where a crate has no figure,
-there is a dash for it and for each sum that it belongs to."""
+there is a dash for it, and a plus after each sum that lacks it."""
 
 import json
-import math
 import pathlib
 import re
 import sys
@@ -39,14 +38,13 @@ def below(crate, crates):
 
 
 def chain(crate, above, seconds):
-    """The seconds of the longest chain of crates from this one up, if all are known."""
-    further = [chain(it, above, seconds) for it in above[crate]]
-    longest = math.nan if any(map(math.isnan, further)) else max(further, default=0)
-    return seconds.get(crate, math.nan) + longest
+    """The seconds of the longest chain of crates from this one up, of those that are known."""
+    return seconds.get(crate, 0) + max((chain(it, above, seconds) for it in above[crate]), default=0)
 
 
-def shown(number):
-    return "–" if math.isnan(number) else f"{number:,}"
+def shown(number, crates, seconds):
+    """A number, which lacks what is not known of some crates."""
+    return f"{number:,}{'' if set(crates) <= set(seconds) else '+'}"
 
 
 def lines_of(crate):
@@ -64,10 +62,9 @@ def table(seconds):
     rows = []
     for it in sorted(program):
         users = [user for user in program if it in stand_on[user] and user != it]
-        cells = [seconds.get(it, math.nan),
-                 sum(seconds.get(user, math.nan) for user in [it, *users]),
-                 chain(it, above, seconds)]
-        alone, whole, longest = map(shown, cells)
+        alone = f"{seconds[it]:,}" if it in seconds else "–"
+        whole = shown(sum(seconds.get(user, 0) for user in [it, *users]), [it, *users], seconds)
+        longest = shown(chain(it, above, seconds), [it, *users], seconds)
         row = f"| `{it}` | {lines_of(it):,} | {alone} | {len(users)} | {whole} | {longest} |\n"
         rows.append((-len(users), it, row))
     lacking = sorted(program - set(seconds))

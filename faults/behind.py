@@ -3,11 +3,13 @@
 import os
 import shutil
 import sqlite3
+import time
 
 from copies import copy
 from runs import House
-from service import Service, check, run, want
+from service import PATIENCE, Service, check, run, want
 from standby import Standby
+from sums import has_marks, last_mark, newest_told
 
 BEHIND = ("ledgerd: behind\nanswered commits are missing: put back the file and the log that were "
           "served last; to go on without them, remove FILE-sums\n")
@@ -34,10 +36,11 @@ def behind(trial):
         if turn % 2 == 0:
             stands_alone(house, trial)
         for name, change in changes(house, kept):
-            outcome = judge(house, trial, change)
+            outcome = judge(house, trial, name, change)
             told.setdefault(outcome, []).append(name)
         row_changed(house, trial)
         served_on(house)
+        served_before(house, trial)
         hand_over(house, trial)
         for name, put in obstacles(house):
             obstructed(house, name, put)
@@ -58,11 +61,6 @@ def end(house, stops):
         want(told == (0, "stopped\n", ""), f"stop: {told}")
     house.service.gone()
     house.service = None
-
-
-def newest_told(house):
-    """The latest clock in any reply."""
-    return max(desk.ledger.clock for desk in house.desks)
 
 
 def newest_in(db):
@@ -87,6 +85,7 @@ def changes(house, kept):
     for share in (0, 1, 2, 3):
         yield f"log cut {share}", lambda db, share=share: cut(db, "-wal", share)
         yield f"sums cut {share}", lambda db, share=share: cut(db, "-sums", share)
+    yield "no log, sums cut", lambda db: (gone(db, "-wal"), cut(db, "-sums", 1))
     yield "sums of other bytes", lambda db: scribble(db, house.random)
     for number, source in enumerate(older):
         for ends in (["-wal"], [""], ["-sums"], ["", "-wal"], ["-wal", "-sums"],
@@ -127,7 +126,7 @@ def written_back(db):
     connection.close()
 
 
-def judge(house, trial, change):
+def judge(house, trial, name, change):
     """What `check` and `serve` say of the files behind a change: as one, and rightly."""
     folder = trial.inner()
     db, read = (os.path.join(folder, name) for name in ("ledger.db", "read.db"))
@@ -142,7 +141,7 @@ def judge(house, trial, change):
         return serves(house, db, "whole")
     if status == 0:
         # A loss is not noticed where the marks are gone or older as well.
-        want(not noted, "a ledger that is behind its mark is ok")
+        want(not noted and "sums" in name, f"{name}: a ledger that lacks commits is ok")
         return serves(house, db, "older, as are its marks")
     want(status == 4, f"behind a change: {status} {out} {err}")
     if err == BEHIND:
@@ -158,24 +157,13 @@ def is_marked(db, newest):
     return os.path.exists(db + "-sums") and (newest is None or last_mark(db + "-sums") > newest)
 
 
-def last_mark(path):
-    """The latest mark of a file of marks by its format in docs/STORAGE.md, and 0 where its head is
-    none."""
-    with open(path, "rb") as file:
-        text = file.read()
-    if len(text) < 32 or text[:8] != b"LDGRSUMS":
-        return 0
-    at, latest = 32, 0
-    while at + 24 <= len(text) and text[at:at + 8] == b"\x04\0\0\0\x08\0\0\0":
-        latest = max(latest, int.from_bytes(text[at + 8:at + 16], "little"))
-        at += 24
-    return latest
-
-
 def serves(house, db, outcome):
-    service = Service(house.program, db)
-    service.kill()
+    served_once(house.program, db)
     return outcome
+
+
+def served_once(program, db):
+    Service(program, db).kill()
 
 
 def refuses(house, db, outcome, line):
@@ -209,6 +197,32 @@ def row_changed(house, trial):
     connection.close()
     status, out, err = run(house.program, "check", "--db", db)
     want(status == 4 and out.startswith("damaged "), f"a balance taken away: {status} {out} {err}")
+
+
+def served_before(house, trial):
+    """The program before knows no FILE-sums, which is away meanwhile. What it has answered is marked by
+    the next opening of this one."""
+    sums, away = f"{house.db}-sums", os.path.join(trial.inner(), "sums")
+    os.rename(sums, away)
+    house.start()
+    for _ in range(3):
+        place, events = house.draw()
+        want(house.take_turn(place).batch(events), "unavailable without marks")
+    house.stop()
+    os.replace(away, sums)
+    check(house.program, house.db)
+    house.start()
+    until = time.monotonic() + PATIENCE
+    while not has_marks(house):
+        want(time.monotonic() < until, "what the program before has answered is not marked")
+        time.sleep(0.05)
+    house.compare()
+    house.stop()
+    db = os.path.join(trial.inner(), "ledger.db")
+    copy(house.db, db)
+    gone(db, "-wal")
+    told = run(house.program, "check", "--db", db)
+    want(told == (4, "", BEHIND), f"without the log of the program before: {told}")
 
 
 def hand_over(house, trial):
@@ -259,5 +273,5 @@ def obstructed(house, name, put):
     if os.path.isdir(sums):
         shutil.rmtree(sums)
         served_on(house)
-    want(last_mark(sums) >= newest_told(house), f"no marks beside {name}")
+    want(has_marks(house), f"no marks beside {name}")
     check(house.program, house.db)

@@ -32,6 +32,7 @@ import limits
 import little
 import lost
 import many
+import marked
 import neighbours
 import parted
 import paused
@@ -70,6 +71,7 @@ TRIALS = {
     "broken": broken.broken,
     "behind": behind.behind,
     "lost": lost.lost,
+    "marked": marked.marked,
     "in_use": use.in_use,
     "no_text": given.no_text,
     "addresses": given.addresses,

@@ -1,18 +1,20 @@
 """The small library that refuses calls of the program that it is loaded into, kills it at one of
 them, and turns its clock back (`refuse.c`)."""
 
+import errno
 import mmap
 import os
 import pathlib
 import struct
 import subprocess
 
-MEMORY, DISK, SENT = 0, 1, 2
+MEMORY, DISK, SENT, MARKS = 0, 1, 2, 3
 # So many calls are refused: all that come, or none, since the process is killed at the first.
 ALL, KILL = 2**40, -2**40
-# Four numbers for each kind of call: skip, many, calls, refused. Behind them the clock's.
+# Four numbers for each kind of call: skip, many, calls, refused. After them the clock's, and why
+# calls on FILE-sums are refused.
 SIZE = 8 * 4
-WHOLE = 3 * SIZE + 8
+WHOLE = 4 * SIZE + 16
 
 
 class Control:
@@ -21,7 +23,7 @@ class Control:
     def __init__(self, folder, library=None):
         path, self.library = os.path.join(folder, "control"), library or made_in(folder)
         with open(path, "wb") as file:
-            file.write(bytes(WHOLE))
+            file.write(bytes(WHOLE - 8) + struct.pack("q", errno.EIO))
         with open(path, "r+b") as file:
             self.shared = mmap.mmap(file.fileno(), WHOLE)
         self.env = {**os.environ, "LD_PRELOAD": self.library, "CONTROL": path}
@@ -42,7 +44,11 @@ class Control:
 
     def turn_back(self, seconds):
         """The clock of the day is told so many seconds behind from now on."""
-        struct.pack_into("q", self.shared, 3 * SIZE, seconds)
+        struct.pack_into("q", self.shared, 4 * SIZE, seconds)
+
+    def give_reason(self, why):
+        """Calls on FILE-sums are refused with this error from now on."""
+        struct.pack_into("q", self.shared, 4 * SIZE + 8, why)
 
     def count(self, kind, act):
         """How many calls of a kind an act makes, with none refused."""

@@ -1,18 +1,21 @@
 /* Refuses calls of the program that it is loaded into, as the file says that CONTROL names and that
-   is shared with whoever tries it: allocations, calls on files by place (pread, pwrite, syncs,
-   cuts) but for those of FILE-sums, and what is sent to a client. Of each kind `skip` calls pass, and then `many` are refused;
-   where `many` is KILL the process is killed there. Calls and refusals are counted. The clock of
-   the day is told so many seconds behind. */
+   is shared with whoever tries it. These are allocations, calls on files by place (pread, pwrite,
+   syncs, cuts), what is sent to a client, and calls on FILE-sums, which are no calls on files then.
+   Of each kind `skip` calls pass, and then `many` are refused; where `many` is KILL the process is
+   killed there. Calls and refusals are counted. Those of FILE-sums are refused for the reason `why`.
+   The clock of the day is told so many seconds behind. */
 #define _GNU_SOURCE
 #include <dlfcn.h>
 #include <errno.h>
 #include <fcntl.h>
 #include <signal.h>
+#include <stdarg.h>
 #include <stdio.h>
 #include <stdlib.h>
 #include <string.h>
 #include <sys/mman.h>
 #include <sys/socket.h>
+#include <sys/stat.h>
 #include <sys/syscall.h>
 #include <time.h>
 #include <unistd.h>
@@ -24,8 +27,8 @@ struct refusal {
 };
 
 struct control {
-    struct refusal memory, disk, sent;
-    long behind;
+    struct refusal memory, disk, sent, marks;
+    long behind, why;
 };
 
 static struct control *control;
@@ -82,7 +85,21 @@ static int is_of_marks(int fd)
 
 static int no_disk(int fd)
 {
-    return control && !is_of_marks(fd) && is_refused(&control->disk, EIO);
+    if (!control)
+        return 0;
+    return is_of_marks(fd) ? is_refused(&control->marks, (int)control->why)
+                           : is_refused(&control->disk, EIO);
+}
+
+static int no_marks(int fd)
+{
+    return control && is_of_marks(fd) && is_refused(&control->marks, (int)control->why);
+}
+
+static int no_path(const char *path)
+{
+    return control && path && strstr(path, "-sums") &&
+           is_refused(&control->marks, (int)control->why);
 }
 
 static int no_reply(int fd)
@@ -141,8 +158,42 @@ REFUSED(no_disk, int, fsync, (int fd), (fd))
 REFUSED(no_disk, int, fdatasync, (int fd), (fd))
 REFUSED(no_disk, int, ftruncate, (int fd, off_t length), (fd, length))
 REFUSED(no_disk, int, ftruncate64, (int fd, off64_t length), (fd, length))
+REFUSED(no_marks, ssize_t, read, (int fd, void *to, size_t size), (fd, to, size))
+REFUSED(no_marks, int, fchmod, (int fd, mode_t mode), (fd, mode))
+REFUSED(no_marks, int, fchown, (int fd, uid_t owner, gid_t group), (fd, owner, group))
 REFUSED(no_reply, ssize_t, send, (int fd, const void *from, size_t size, int flags),
         (fd, from, size, flags))
+
+/* The same of calls that name a file. */
+#define REFUSED_AT(name, parameters, arguments)                       \
+    int name parameters                                               \
+    {                                                                 \
+        static int(*own) parameters;                                  \
+        if (!own)                                                     \
+            own = (int(*) parameters)dlsym(RTLD_NEXT, #name);         \
+        return no_path(path) ? -1 : own arguments;                    \
+    }
+
+REFUSED_AT(unlink, (const char *path), (path))
+REFUSED_AT(rename, (const char *path, const char *to), (path, to))
+REFUSED_AT(statx, (int folder, const char *path, int flags, unsigned mask, struct statx *to),
+           (folder, path, flags, mask, to))
+
+#define OPENED(name, parameters, arguments)                           \
+    int name parameters                                               \
+    {                                                                 \
+        static int(*own) parameters;                                  \
+        if (!own)                                                     \
+            own = (int(*) parameters)dlsym(RTLD_NEXT, #name);         \
+        va_list more;                                                 \
+        va_start(more, flags);                                        \
+        mode_t mode = flags & (O_CREAT | __O_TMPFILE) ? va_arg(more, mode_t) : 0; \
+        va_end(more);                                                 \
+        return no_path(path) ? -1 : own arguments;                    \
+    }
+
+OPENED(open, (const char *path, int flags, ...), (path, flags, mode))
+OPENED(open64, (const char *path, int flags, ...), (path, flags, mode))
 
 int clock_gettime(clockid_t clock, struct timespec *now)
 {

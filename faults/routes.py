@@ -18,6 +18,8 @@ ROUTES = {
     ("POST", "/query/transfers"): PAGE,
     ("POST", "/pending/lookup"): b"[]",
     ("POST", "/pending/open"): PAGE,
+    ("POST", "/lint/accounts"): b"[]",
+    ("POST", "/lint/transfers"): b"[]",
     ("GET", "/statement/1"): b"",
 }
 

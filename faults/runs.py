@@ -4,11 +4,13 @@ that is full. After each the file is ok, and all that tenants see is what the pl
 import copy
 import os
 import threading
+import time
 
 import copies
-from connection import Lost
+from connection import PATIENCE, Lost
 from drawn import Requests
 from service import Desk, Service, add_tenant, change_key, check, want
+from sums import has_marks
 
 NAMES = ("north-desk", "south-hall", "east-club", "west-pier", "old-mill", "new-port", "high-gate",
          "low-moor")
@@ -199,8 +201,17 @@ def fill_once(house):
         found = house.take_turn(place).settle(events)
         house.compare()
         want(house.take_turn(place).batch(events), "unavailable, with room again")
+    wait_for_marks(house)
     house.compare()
     return not was_done, found
+
+
+def wait_for_marks(house):
+    """Until FILE-sums has the latest clock in a reply, with no batch more."""
+    end = time.monotonic() + PATIENCE
+    while not has_marks(house):
+        want(time.monotonic() < end, "not marked, with room again")
+        time.sleep(0.05)
 
 
 def fill(house):

@@ -2,6 +2,7 @@
 reply is compared with the plain ledger's."""
 
 import atexit
+import copy
 import json
 import os
 import pathlib
@@ -186,11 +187,13 @@ class Service:
 
 
 class Desk:
-    """A tenant of a service, and the plain ledger beside it."""
+    """A tenant of a service, and the plain ledger beside it. Where a lost batch may have failed whole,
+    `others` are the ledgers that it may have left."""
 
     def __init__(self, key):
         self.key, self.ledger, self.asked = key, Ledger(), set()
         self.connection, self.longest = None, 0.0
+        self.others, self.before = [], None
 
     def connect(self, service):
         self.leave()
@@ -217,7 +220,8 @@ class Desk:
             return None
         want(status == "200 OK", f"{method} {path}: {status} {told!r}")
         if path not in BATCHES:
-            self.ledger.reach(clock_in(told))
+            for ledger in self.ledgers():
+                ledger.reach(clock_in(told))
         if path in pages.PATHS:
             return told
         return told.decode() if kind == "text/csv" else json.loads(told)
@@ -225,22 +229,31 @@ class Desk:
     def batch(self, events, transfers=True):
         """Sends a batch, and compares. Says whether it was answered; else nothing has changed."""
         self.asked |= {event["id"] for event in events if transfers}
-        begun = time.time_ns()
+        begun, self.before = time.time_ns(), self.ledger.clock
         told = self.ask("POST", "/transfers" if transfers else "/accounts", body_of(events))
         if told is None:
-            self.ledger.refuse(events if transfers else (), begun, time.time_ns())
+            for ledger in self.ledgers():
+                ledger.refuse(events if transfers else (), begun, time.time_ns())
             return False
         self.judge(events, transfers, told)
         return True
 
     def judge(self, events, transfers, told):
-        clock = int(told["clock"])
+        """Compares an answer. Where a doubt was left, the ledgers that it fits are kept."""
+        clock, self.before = int(told["clock"]), None
         want(clock >= self.ledger.clock + len(events), f"the clock {clock} has turned back")
         names = TRANSFER_RESULTS if transfers else ACCOUNT_RESULTS
-        expected = [{"number": number, "result": names[number], "timestamp": str(stamp)}
-                    for number, stamp in self.ledger.batch(events, clock, transfers)]
-        want(told["results"] == expected,
-             f"{body_of(events).decode()} is answered {told}, not {expected}")
+        expected = [[{"number": number, "result": names[number], "timestamp": str(stamp)}
+                     for number, stamp in ledger.batch(events, clock, transfers)]
+                    for ledger in self.ledgers()]
+        fitting = [ledger for ledger, results in zip(self.ledgers(), expected)
+                   if results == told["results"]]
+        want(fitting, f"{body_of(events).decode()} is answered {told}, not {expected}")
+        self.ledger, *self.others = apart(fitting)
+
+    def ledgers(self):
+        """The plain ledger, and those that it may be as well."""
+        return [self.ledger, *self.others]
 
     def until_well(self):
         """Asks until it is answered: a file that could not be opened again is tried anew, and then
@@ -257,16 +270,18 @@ class Desk:
 
     def settle(self, events, transfers=True):
         """After a lost reply, or a refusal: whether the batch was kept, by one look-up of its ids. What
-        was accepted of it tells when. Where nothing was, the clock tells, but not where a hold is due
-        at it."""
+        was accepted of it tells when. Where nothing was, the clock tells. If a hold is due at that
+        clock, the batch may have been kept and all of it have failed, as a later answer shows."""
         path, name, known = (("/transfers/lookup", "transfers", self.ledger.transfers) if transfers
                              else ("/accounts/lookup", "accounts", self.ledger.accounts))
         ids, before = [event["id"] for event in events], self.ledger.clock
+        sent = before if self.before is None else self.before
         told = self.until_told(*lookup(path, ids))
         clock, stamps = int(told["clock"]), {int(it["id"]): int(it["timestamp"]) for it in told[name]}
         last = next((stamps[number] + len(ids) - 1 - place for place, number in enumerate(ids)
                      if number in stamps and number not in known), None)
         if last is None and clock == self.ledger.clock:
+            self.doubt(events, transfers, sent)
             return False
         last = last or clock
         # Before the batch it was here, where it had not been settled behind the batch by then.
@@ -274,7 +289,25 @@ class Desk:
         self.ledger.clock = min(before, last - len(events)) if is_settled else before
         self.ledger.batch(events, last, transfers)
         want(self.ledger.reach(clock), f"the clock is {clock}, of a batch at {last}")
+        self.others = []
         return True
+
+    def doubt(self, events, transfers, sent):
+        """Nothing of a batch is there that was sent at a clock, and a hold was due since. The ledgers
+        that it may have left: of the earliest moment, of the latest, and of each at which a hold was
+        due between."""
+        now, first = self.ledger.clock, sent + len(events)
+        moments = {first, now, *(due for due in self.ledger.dues if first <= due)}
+        for ledger in self.ledgers() if transfers else ():
+            for at in sorted(at for at in moments if first <= at <= now):
+                other = copy.deepcopy(ledger)
+                other.clock = sent
+                other.batch(events, at, transfers)
+                other.clock = now
+                self.others.append(other)
+        for ledger in self.ledgers():
+            ledger.refuse(events if transfers else (), first, now)
+        self.ledger, *self.others = apart(self.ledgers())
 
     def accounts(self):
         """A look-up of all its accounts and of one more, and what has to stand in the reply."""
@@ -322,6 +355,14 @@ class Desk:
                 self.connect(service)
             told, asked = self.ask(*request), time.monotonic()
             look_at(request, told, reply)
+
+
+def apart(ledgers):
+    """The first of each of some ledgers that differ in what has failed. They differ in nothing else."""
+    different = {}
+    for ledger in ledgers:
+        different.setdefault(frozenset(ledger.failed), ledger)
+    return list(different.values())
 
 
 def look_at(request, told, reply):

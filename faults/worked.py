@@ -11,6 +11,7 @@ import pathlib
 import re
 
 import recipes
+from doubted import doubted
 from model import ACCOUNT_FIELDS, BALANCES, MAX, TRANSFER_FIELDS, Ledger, page
 from pages import HOLDS, OPEN, PATHS, TRANSFERS, reply
 
@@ -66,6 +67,7 @@ PAGES = (
     ({"limit": 9, "timestamp_min": 7, "timestamp_max": 6}, [], 0),
     ({"limit": 9, "code": 2}, [], 0),
 )
+LINTS = "/lint/accounts", "/lint/transfers"
 HOLDS_TOLD = (b'{"clock":"9","pending":[{"due":"1000000005","id":"100","state":"posted"},'
               b'{"due":"0","id":"103","state":"open"},'
               b'{"due":"1000000009","id":"104","state":"open"},'
@@ -180,6 +182,15 @@ def check_pages():
     return len(PAGES) + 4 + len(FORWARD) + len(BACK)
 
 
+def answer_shown(ledger, path, asked):
+    """The reply to a request that a page shows. A body that is only judged has its events counted."""
+    if path in LINTS:
+        return f'{{"events":{len(asked)}}}'.encode()
+    if path == HOLDS:
+        return reply(ledger, path, [int(each) for each in asked])
+    return reply(ledger, path, {name: int(value) for name, value in asked.items()})
+
+
 def check_messages():
     """The same of those that docs/MESSAGES.md shows: one at least for each of the routes that it
     tells of."""
@@ -187,10 +198,7 @@ def check_messages():
     run(ledger, SHOWN_BEHIND)
     shown = re.findall(r"^    POST (/\S+) +(\S+)\n    (\{.*\})$", text, re.M)
     for path, body, told in shown:
-        asked = json.loads(body)
-        asked = ([int(each) for each in asked] if path == HOLDS
-                 else {name: int(value) for name, value in asked.items()})
-        assert reply(ledger, path, asked) == told.encode(), f"{path} {body}"
+        assert answer_shown(ledger, path, json.loads(body)) == told.encode(), f"{path} {body}"
     assert {path for path in PATHS if f"`{path}`" in text} <= {path for path, _, _ in shown}
     return len(shown)
 
@@ -200,9 +208,10 @@ SHOWN = (check_messages, recipes.check)
 
 
 def model(trial):
-    """What the plain ledger answers, and what the program answers of docs/RECIPES.md."""
-    return (f"{check()} worked examples are answered as they stand, and {recipes.play(trial)} "
-            "requests of the recipes by the program")
+    """What the plain ledger answers, what lost replies leave of it, and what the program answers of
+    docs/RECIPES.md."""
+    return (f"{check()} worked examples are answered as they stand, {doubted()} courses of lost replies "
+            f"end as they should, and {recipes.play(trial)} requests of the recipes by the program")
 
 
 if __name__ == "__main__":

@@ -1,7 +1,6 @@
 """Twenty tenants behind the proxy, each beside a plain ledger of its own: each sends a batch until
 it is answered, and only then the next one."""
 
-import copy
 import random
 import re
 import secrets
@@ -52,7 +51,7 @@ class Client(Desk):
 
     def __init__(self, fleet, place):
         super().__init__(secrets.token_hex(32))
-        self.ledger, self.told, self.kept = Indexed(), [], []
+        self.ledger, self.told = Indexed(), []
         self.requests = Requests(random.Random(secrets.randbits(64)), 10**9 * (place + 1))
         self.instance = fleet.add(f"client-{place}", self.key)
         self.is_over, self.surprise, self.thread = threading.Event(), None, None
@@ -73,15 +72,13 @@ class Client(Desk):
         """Sends a batch until it is answered. Behind any other answer the ledger's clock tells
         whether it was kept: by the second look all is done that a machine had been sent before."""
         is_lost, is_unsure, end = self.connection is None, False, time.monotonic() + PATIENCE
-        clock = self.ledger.clock
         while time.monotonic() < end:
             try:
                 if is_lost:
                     self.connect()
                 if is_unsure:
                     self.until_well()
-                    if not self.settle(events, transfers):
-                        self.doubt(events, transfers, clock)
+                    self.settle(events, transfers)
                 if self.batch(events, transfers):
                     return
                 is_lost, is_unsure = False, True
@@ -89,27 +86,6 @@ class Client(Desk):
                 is_lost = is_unsure = True
                 time.sleep(0.05)
         want(False, f"{self.instance.name}: not answered for minutes")
-
-    def doubt(self, events, transfers, before):
-        """Where the clock has moved and nothing of a batch is there, a hold was due, or the batch was kept and
-        all of it has failed. Its next answer shows which, and as early or late as may be."""
-        clock, self.kept = self.ledger.clock, []
-        for at in {before + len(events), clock} if clock >= before + len(events) else ():
-            kept = copy.deepcopy(self.ledger)
-            kept.clock = before
-            kept.batch(events, at, transfers)
-            kept.clock = clock
-            self.kept.append(kept)
-
-    def judge(self, events, transfers, told):
-        """Compares as ever, with the ledger that the answer fits where the clock left a doubt."""
-        numbers = [it["number"] for it in told["results"]]
-        for kept in self.kept:
-            results = copy.deepcopy(kept).batch(events, int(told["clock"]), transfers)
-            if [number for number, _ in results] == numbers:
-                self.ledger = kept
-        self.kept = []
-        super().judge(events, transfers, told)
 
     def begin(self):
         self.is_over.clear()

@@ -4,30 +4,47 @@ is gone with the processes that hold it."""
 import atexit
 import os
 import subprocess
+import sys
 import time
 
 # The networks that join the machines: to the volume, and to clients.
 STORE, FRONT = "store", "front"
 NUMBERS = {STORE: 77, FRONT: 78}
 PATIENCE = 120
+# After how many seconds a wait is reported.
+SLOW = 10
 
 
 def run(*words, check=True):
-    """What a command writes. Where it fails all ends, unless that is asked for."""
-    done = subprocess.run(words, stdout=subprocess.PIPE, stderr=subprocess.STDOUT, text=True)
-    if check and done.returncode != 0:
-        raise RuntimeError(f"{' '.join(words)}: {done.returncode} {done.stdout}")
-    return done.stdout
+    """What a command writes. Where it fails all ends, unless that is asked for. One that takes long is
+    named: a `gluster` that its daemon does not answer gives up only after two minutes."""
+    begun = subprocess.Popen(words, stdout=subprocess.PIPE, stderr=subprocess.STDOUT, text=True)
+    try:
+        told, _ = begun.communicate(timeout=SLOW)
+    except subprocess.TimeoutExpired:
+        waits_for(" ".join(words))
+        told, _ = begun.communicate()
+    if check and begun.returncode != 0:
+        raise RuntimeError(f"{' '.join(words)}: {begun.returncode} {told}")
+    return told
 
 
 def wait_until(holds, text, patience=PATIENCE, pause=0.1):
-    """Waits until something holds, and tells what it was."""
-    end = time.monotonic() + patience
+    """Waits until something holds, and tells what it was. Where that takes long, the text is printed."""
+    begun, is_slow = time.monotonic(), False
     while not (found := holds()):
-        if time.monotonic() > end:
+        waited = time.monotonic() - begun
+        if waited > patience:
             raise TimeoutError(text)
+        if waited > SLOW and not is_slow:
+            is_slow = True
+            waits_for(text)
         time.sleep(pause)
     return found
+
+
+def waits_for(text):
+    print(f"still waiting after {SLOW} s: {text}", file=sys.stderr, flush=True)
 
 
 def begin_networks():

@@ -92,24 +92,43 @@ fn read_whole(rt: &HostRuntime, file: &mut File) -> io::Result<Option<(Sums, usi
 }
 
 /// Makes the FILE-sums of a file anew, with these records, under a key that is drawn at random. The
-/// one before stands until the new one is on the disk.
+/// one before stands until the new one is on the disk, and where the call fails.
 pub fn make_beside(
     access: &Access<'_>,
     key: u64,
     entries: &[Record],
 ) -> io::Result<KeptSums<File>> {
-    let (name, part) = (access.name()?, access.part_name()?);
-    let alloc = access.rt.alloc();
+    let part = access.part_name()?;
     let _was_there = remove(access.rt, part.as_str())?;
-    let file = make_own(access, part.as_str())?;
+    match make_named(access, part.as_str(), key, entries) {
+        Ok(kept) => {
+            // It is the one to append to, even where a loss of power may still take its name away.
+            let _ = access.sync_folder();
+            Ok(kept)
+        }
+        Err(error) => {
+            let _ = remove(access.rt, part.as_str());
+            Err(error)
+        }
+    }
+}
+
+// Makes it under another name, and gives it its own once it is whole and synced.
+fn make_named(
+    access: &Access<'_>,
+    part: &str,
+    key: u64,
+    entries: &[Record],
+) -> io::Result<KeptSums<File>> {
+    let (alloc, name) = (access.rt.alloc(), access.name()?);
+    let file = make_own(access, part)?;
     let (sums, head) = Sums::begin(alloc, NO_PAGES, key)?;
     let mut kept = KeptSums::begin(file, sums, &head)?;
     for entry in entries {
         kept.append(alloc, *entry)?;
     }
     kept.sync()?;
-    fs::rename(access.rt, part.as_str(), name.as_str())?;
-    access.sync_folder()?;
+    fs::rename(access.rt, part, name.as_str())?;
     Ok(kept)
 }
 

@@ -1,6 +1,6 @@
 //! The clock in a reply.
 
-ghost use Rattle.std.specs.Prelude.{◌≡◌, ◌<◌, ◌^◌, ◌++◌, ◌∷◌, ◌↔◌, ℕ, List, MatchOption, IsTrue};
+ghost use Rattle.std.specs.Prelude.{◌≡◌, ◌<◌, ◌^◌, ◌++◌, ◌∷◌, ◌↔◌, ℕ, List, MatchOption, IsTrue, max};
 ghost use Rattle.amount.specs.Decimal.{decimal_of};
 ghost use Rattle.reply_marks.specs.Replies.{Lacks, IsSplit, TellsClock};
 
@@ -16,6 +16,17 @@ pub fn clock_in(reply: &[u8]) -> Option<u64>
     let text = behind(body, b"\"clock\":\"")?;
     let (digits, _rest) = parted(b'"', text)?;
     number(digits)
+}
+
+/// The later one of this clock and of the one that a reply tells, if it tells one.
+pub fn latest_told(clock: u64, reply: &[u8]) -> u64
+    ensures told { (other : ℕ) → TellsClock reply.now other → result ≡ max clock other }
+    ensures untold { ((other : ℕ) → TellsClock reply.now other → ⊥) → result ≡ clock }
+{
+    match clock_in(reply) {
+        Some(other) => clock.max(other),
+        None => clock,
+    }
 }
 
 // What stands before the first such byte, and behind it.

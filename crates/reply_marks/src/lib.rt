@@ -6,15 +6,19 @@
 //! answered.
 #![tactic(auto)]
 
+mod beside;
 mod clock;
+mod finding;
 mod latest;
 mod marking;
 mod marks;
 mod pace;
 #[cfg(test)]
 mod tests;
+mod trouble;
 
-pub use clock::clock_in;
+pub use clock::{clock_in, latest_told};
+pub use finding::{Found, forget_beside, noted_beside};
 pub use latest::latest_clock;
-pub use marking::mark_reply;
-pub use marks::{Found, Marks, forget_beside, noted_beside};
+pub use marking::{mark_clock, mark_reply};
+pub use marks::Marks;

@@ -1,83 +1,13 @@
 //! The marks of a file that is served.
 
-use crate::pace::Pace;
-use crate::{clock_in, mark_reply};
-use file_sums::{Noted, Record};
-use kept_sums::{Access, KeptSums, make_beside, open_beside, read_beside, remove_beside};
-use std::alloc::Global;
+use crate::beside::Beside;
+use crate::finding::{Found, find_beside};
+use crate::trouble::Trouble;
 use std::cell::{Cell, RefCell};
-use std::fs::File;
-use std::hash::{BuildHasher, RandomState};
-use std::io::{self, ErrorKind};
-use std::time::{Clock, Duration};
+use std::io;
 
-/// How much is appended before FILE-sums is made anew.
-const MOST_APPENDED: u64 = 1 << 20;
-
-/// What was found beside a file.
-#[derive(Drop)]
-pub struct Found {
-    /// What it says, where it can be read.
-    pub noted: Noted,
-    kept: Option<KeptSums<File>>,
-}
-
-/// What the FILE-sums of a file says, by the file's path without links. Nothing is noted where there
-/// is none that can be read. Nothing is written.
-pub fn noted_beside(rt: &HostRuntime, path: &str) -> Noted {
-    match read_beside(&Access { rt, path }) {
-        Ok(Some(noted)) => noted,
-        _ => Noted::new(),
-    }
-}
-
-/// Takes the FILE-sums of a file away, if there is one, by the file's path without links.
-pub fn forget_beside(rt: &HostRuntime, path: &str) -> io::Result<()> {
-    remove_beside(&Access { rt, path })
-}
-
-/// FILE-sums, beside the file at this path.
-#[derive(Drop)]
-struct Beside {
-    path: String,
-    kept: KeptSums<File>,
-    /// How long it gets before it is made anew.
-    most: u64,
-    pace: Pace,
-    /// The latest clock of a reply that went out while nothing was appended.
-    late: u64,
-}
-
-impl Beside {
-    // Marks the clocks that were not marked while nothing was appended.
-    fn mark_late(&mut self, alloc: Global) -> io::Result<()> {
-        if self.late > self.kept.noted().mark {
-            self.kept.append(alloc, Record::Mark(self.late))?;
-        }
-        Ok(())
-    }
-
-    // Marks the clock of a reply, or keeps it for later.
-    fn mark(&mut self, rt: &HostRuntime, reply: &[u8]) -> io::Result<()> {
-        let began = now(rt);
-        if self.pace.rests(began) {
-            self.late = self.late.max(clock_in(reply).unwrap_or(0));
-            return Ok(());
-        }
-        let marked = mark_reply(&mut self.kept, rt.alloc(), reply);
-        self.pace.took(began, now(rt));
-        marked?;
-        self.mark_late(rt.alloc())
-    }
-}
-
-// The moment by the machine's clock.
-fn now(rt: &HostRuntime) -> Duration {
-    rt.monotonic().unwrap_or(Duration::ZERO)
-}
-
-/// FILE-sums of a file that is served, once that is open. Where it cannot be written, that is
-/// reported once, and the service goes on.
+/// FILE-sums of a file that is served, once that is open. Where it cannot be made or written, that is
+/// reported once, and the service goes on. It is tried again each second.
 #[derive(Drop)]
 pub struct Marks<'a> {
     rt: &'a HostRuntime,
@@ -99,117 +29,74 @@ impl<'a> Marks<'a> {
     /// where it can be appended to. `WouldBlock` where another process has it. Replies are not
     /// marked yet.
     pub fn find(&self, path: &str) -> io::Result<Found> {
-        let rt = self.rt;
-        match open_beside(&Access { rt, path }) {
-            Ok(Some(kept)) => Ok(Found {
-                noted: kept.noted(),
-                kept: Some(kept),
-            }),
-            Err(error) if error.kind() == ErrorKind::WouldBlock => Err(error),
-            _ => Ok(Found {
-                noted: noted_beside(rt, path),
-                kept: None,
-            }),
+        find_beside(self.rt, path)
+    }
+
+    /// Marks the replies from now on, beside a file whose latest clock is this one. FILE-sums is made
+    /// where there is none, or what stands there is none. One that cannot be read is left alone.
+    pub fn begin(&self, path: &str, found: Found, clock: u64) {
+        match Beside::new(self.rt, path, clock) {
+            Ok(mut beside) => {
+                let begun = beside.take_up(self.rt, found);
+                self.report(path, begun);
+                if let Ok(mut place) = self.beside.try_borrow_mut() {
+                    *place = Some(beside);
+                }
+            }
+            Err(error) => self.report(path, Err(Trouble::Unwritable(error.into()))),
         }
     }
 
-    /// Marks the replies from now on, beside a file whose latest clock is this one. Where it has no
-    /// FILE-sums, one is made.
-    pub fn begin(&self, path: &str, found: Found, clock: u64) {
-        let kept = match found.kept {
-            Some(kept) => Ok(kept),
-            None => self.made(path, clock),
-        };
-        let begun = kept.and_then(|kept| self.keep(path, kept));
-        self.report(path, begun);
-    }
-
-    /// Syncs FILE-sums, and lets go of it.
+    /// Marks what was put off, syncs FILE-sums, and lets go of it.
     pub fn end(&self) {
         if let Ok(mut beside) = self.beside.try_borrow_mut() {
             if let Some(beside) = &mut *beside {
-                let _ = beside.mark_late(self.rt.alloc());
-                let _ = beside.kept.sync();
+                let marked = beside.mark_late(self.rt);
+                self.report(beside.path(), marked);
+                let _ = beside.sync();
             }
             *beside = None;
         }
     }
 
-    /// Marks the clock of a reply to a batch, which is still to go out. On a slow volume that may be
-    /// put off, until the first reply after a tenth of a second or until `catch_up`.
+    /// Marks the clock of a reply to a batch, which is still to go out. On a slow volume, or where
+    /// that has failed, it may be put off: until the first reply after that time, or until
+    /// `catch_up`.
     pub fn note(&self, reply: &[u8]) {
-        let Ok(mut beside) = self.beside.try_borrow_mut() else {
-            return;
-        };
-        if let Some(beside) = &mut *beside {
-            let noted = beside.mark(self.rt, reply);
-            self.report(beside.path.as_str(), noted);
-            if beside.kept.len() > beside.most {
-                self.renew(beside);
-            }
+        if let Ok(mut beside) = self.beside.try_borrow_mut()
+            && let Some(beside) = &mut *beside
+        {
+            let noted = beside.note(self.rt, reply);
+            self.report(beside.path(), noted);
         }
     }
 
     /// Marks what was put off, where it is time to: to be called every second or so.
     pub fn catch_up(&self) {
-        let Ok(mut beside) = self.beside.try_borrow_mut() else {
-            return;
-        };
-        if let Some(beside) = &mut *beside
-            && beside.late > beside.kept.noted().mark
-            && !beside.pace.rests(now(self.rt))
+        if let Ok(mut beside) = self.beside.try_borrow_mut()
+            && let Some(beside) = &mut *beside
         {
-            let marked = beside.mark_late(self.rt.alloc());
-            self.report(beside.path.as_str(), marked);
+            let marked = beside.catch_up(self.rt);
+            self.report(beside.path(), marked);
         }
     }
 
-    fn keep(&self, path: &str, kept: KeptSums<File>) -> io::Result<()> {
-        let path = String::from_str(self.rt.alloc(), path)?;
-        let most = kept.len().saturating_add(MOST_APPENDED);
-        if let Ok(mut beside) = self.beside.try_borrow_mut() {
-            *beside = Some(Beside {
-                path,
-                kept,
-                most,
-                pace: Pace::new(),
-                late: 0,
-            });
-        }
-        Ok(())
-    }
-
-    // FILE-sums with this mark alone.
-    fn made(&self, path: &str, mark: u64) -> io::Result<KeptSums<File>> {
-        let rt = self.rt;
-        let key = RandomState::new(rt)?.hash_one(&0u8);
-        make_beside(&Access { rt, path }, key, &[Record::Mark(mark)])
-    }
-
-    // Makes it anew with the last mark. Where that fails, the one that is there is appended to.
-    fn renew(&self, beside: &mut Beside) {
-        let mark = beside.kept.noted().mark;
-        if let Ok(kept) = self.made(beside.path.as_str(), mark) {
-            beside.kept = kept;
-        }
-        beside.most = beside.kept.len().saturating_add(MOST_APPENDED);
-    }
-
-    // Reports the first failure, and that it is over.
-    fn report(&self, path: &str, outcome: io::Result<()>) {
-        let was_failing = self.is_failing.replace(outcome.is_err());
+    // Reports the first failure, and that something was written after it.
+    fn report(&self, path: &str, outcome: Result<bool, Trouble>) {
         match outcome {
-            Err(error) if !was_failing => {
-                let _ = self.rt.eprintln(format_args!(
-                    "{path}-sums: {error}: a log that goes missing may not be noticed"
-                ));
+            Ok(true) => {
+                if self.is_failing.replace(false) {
+                    let _ = self
+                        .rt
+                        .eprintln(format_args!("{path}-sums is written again"));
+                }
             }
-            Ok(()) if was_failing => {
-                let _ = self
-                    .rt
-                    .eprintln(format_args!("{path}-sums is written again"));
+            Ok(false) => {}
+            Err(trouble) => {
+                if !self.is_failing.replace(true) {
+                    trouble.report(self.rt, path);
+                }
             }
-            _ => {}
         }
     }
 }

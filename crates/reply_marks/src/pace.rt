@@ -8,6 +8,9 @@ const SLOW: u64 = 200;
 /// In milliseconds: how long nothing more is appended where two in a row were slow.
 const REST: u64 = 100;
 
+/// In seconds: how long nothing is tried again after a failure.
+const PAUSE: u64 = 1;
+
 /// The pace of appends to one file, at moments of the machine's clock.
 #[derive(Clone, Copy)]
 pub(crate) struct Pace {
@@ -39,5 +42,10 @@ impl Pace {
         if self.slow > 1 {
             self.rests_until = ended.saturating_add(Duration::from_millis(REST));
         }
+    }
+
+    /// At this moment an append has failed, or there was nothing to append to.
+    pub(crate) fn failed(&mut self, at: Duration) {
+        self.rests_until = at.saturating_add(Duration::from_secs(PAUSE));
     }
 }

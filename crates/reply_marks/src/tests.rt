@@ -1,9 +1,9 @@
 use crate::pace::Pace;
-use crate::{Marks, clock_in, forget_beside, mark_reply, noted_beside};
+use crate::{Marks, clock_in, forget_beside, latest_told, mark_clock, mark_reply, noted_beside};
 use file_sums::{LogNoted, Noted, Record, Sums};
 use kept_sums::{Access, KeptSums, Place, make_beside, read_beside};
 use std::test::Fail;
-use std::time::Duration;
+use std::time::{Clock, Duration};
 use std::{fs, io};
 
 // The reply that docs/MESSAGES.md has.
@@ -33,6 +33,53 @@ fn the_clock_of_a_batch_is_found(rt: HostRuntime) {
     assert_eq!(rt; clock_in(b"{\"clock\":\"3"), None);
     assert_eq!(rt; clock_in(b"{\"accounts\":[],\"clock\":\"3\"}"), None);
     assert_eq!(rt; clock_in(b""), None);
+    assert_eq!(rt; latest_told(2, REPLY), 3);
+    assert_eq!(rt; latest_told(4, REPLY), 4);
+    assert_eq!(rt; latest_told(4, REFUSED), 4);
+}
+
+// A file that is not looked at, and may be full.
+#[derive(Drop)]
+struct Unread {
+    is_full: bool,
+}
+
+impl Place for Unread {
+    ghost use Rattle.std.specs.Prelude.{None};
+
+    ghost bytes = { λ _. None };
+
+    fn write_part(&mut self, _at: u64, _part: &[u8]) -> io::Result<()> {
+        if self.is_full {
+            Err(io::ErrorKind::StorageFull.into())
+        } else {
+            Ok(())
+        }
+    }
+
+    fn sync(&mut self) -> io::Result<()> {
+        Ok(())
+    }
+}
+
+#[test]
+fn only_a_later_clock_is_marked(rt: HostRuntime) -> Result<(), Fail> {
+    let alloc = rt.alloc();
+    let (sums, head) = Sums::begin(alloc, 0, 5)?;
+    let mut kept = KeptSums::begin(Unread { is_full: false }, sums, &head)?;
+    assert!(rt; mark_reply(&mut kept, alloc, REPLY)?);
+    assert!(rt; !mark_reply(&mut kept, alloc, REPLY)?);
+    assert!(rt; !mark_reply(&mut kept, alloc, REFUSED)?);
+    assert!(rt; !mark_clock(&mut kept, alloc, 3)?);
+    assert!(rt; mark_clock(&mut kept, alloc, 4)?);
+    assert_eq!(rt; kept.noted().mark, 4);
+    assert_eq!(rt; kept.len(), 80);
+
+    let (sums, head) = Sums::begin(alloc, 0, 5)?;
+    let mut kept = KeptSums::over(Unread { is_full: true }, sums, head.len() as u64);
+    assert!(rt; mark_reply(&mut kept, alloc, LATER).is_err());
+    assert_eq!(rt; kept.noted().mark, 0);
+    Ok(())
 }
 
 const FOLDER: &str = "reply_marks_test";
@@ -83,6 +130,81 @@ fn a_mark_is_found_by_the_next_opening(rt: HostRuntime) -> Result<(), Fail> {
     Ok(())
 }
 
+// Waits for a second, and longer where the machine is busy.
+fn catches_up(marks: &Marks<'_>, access: &Access<'_>, wanted: Noted) -> Result<bool, Fail> {
+    let rt = access.rt;
+    let began = rt.monotonic()?;
+    for _ in 0..u64::MAX {
+        marks.catch_up();
+        if read_beside(access)? == Some(wanted) {
+            return Ok(true);
+        }
+        let now = rt.monotonic()?;
+        if now.saturating_sub(began) > Duration::from_secs(30) {
+            return Ok(false);
+        }
+    }
+    Ok(false)
+}
+
+#[test]
+fn what_could_not_be_made_is_made_later(rt: HostRuntime) -> Result<(), Fail> {
+    const FOLDER: &str = "reply_marks_later";
+    const PATH: &str = "reply_marks_later/a.db";
+    const SUMS: &str = "reply_marks_later/a.db-sums";
+    const INNER: &str = "reply_marks_later/a.db-sums/inner";
+    let _ = fs::remove_dir_all(&rt, FOLDER);
+    fs::create_dir(&rt, FOLDER)?;
+    fs::write(&rt, PATH, b"".as_slice())?;
+    fs::create_dir(&rt, SUMS)?;
+    fs::create_dir(&rt, INNER)?;
+    let access = Access {
+        rt: &rt,
+        path: PATH,
+    };
+    let marks = Marks::new(&rt);
+    let found = marks.find(PATH)?;
+    assert_eq!(rt; found.noted, Noted::new());
+    marks.begin(PATH, found, 2);
+    marks.note(REPLY);
+    marks.catch_up();
+    assert_eq!(rt; read_beside(&access)?, None);
+    // Nothing is left of what was tried.
+    assert_eq!(rt; fs::read_dir(&rt, FOLDER)?.count(), 2);
+    fs::remove_dir_all(&rt, SUMS)?;
+    let noted = Noted {
+        log: LogNoted::Unnamed,
+        mark: 3,
+        has_doubt: false,
+    };
+    assert!(rt; catches_up(&marks, &access, noted)?);
+    marks.end();
+    fs::remove_dir_all(&rt, FOLDER)?;
+    Ok(())
+}
+
+#[test]
+fn what_was_put_off_is_marked_at_the_end(rt: HostRuntime) -> Result<(), Fail> {
+    const FOLDER: &str = "reply_marks_end";
+    const PATH: &str = "reply_marks_end/a.db";
+    let _ = fs::remove_dir_all(&rt, FOLDER);
+    fs::create_dir(&rt, FOLDER)?;
+    fs::write(&rt, PATH, b"".as_slice())?;
+    let marks = Marks::new(&rt);
+    let found = marks.find(PATH)?;
+    marks.begin(PATH, found, 2);
+    marks.end();
+    let found = marks.find(PATH)?;
+    assert_eq!(rt; found.noted.mark, 2);
+    // A ledger that was served without marks has a later clock.
+    marks.begin(PATH, found, 5);
+    marks.note(REPLY);
+    marks.end();
+    assert_eq!(rt; noted_beside(&rt, PATH).mark, 5);
+    fs::remove_dir_all(&rt, FOLDER)?;
+    Ok(())
+}
+
 #[test]
 fn a_slow_volume_has_a_mark_ten_times_a_second(rt: HostRuntime) {
     let at = Duration::from_micros;
@@ -98,4 +220,7 @@ fn a_slow_volume_has_a_mark_ten_times_a_second(rt: HostRuntime) {
     assert!(rt; pace.rests(at(4_300)));
     assert!(rt; pace.rests(at(104_299)));
     assert!(rt; !pace.rests(at(104_300)));
+    pace.failed(at(200_000));
+    assert!(rt; pace.rests(at(1_199_999)));
+    assert!(rt; !pace.rests(at(1_200_000)));
 }
