@@ -16,8 +16,9 @@ use Rattle.openings.specs.declared.opening.OpenFault.{OpenFault}
 use Rattle.openings.specs.declared.opening.OpenFault.TheVariants as opening
 use Rattle.store.specs.Refused.{RefusesToOpen}
 use Rattle.command_texts.specs.declared.fault.Fault.{Fault}
-use Rattle.commands.specs.Openings.{HasFound, HasFoundSome, IsFoundFault, IsFoundSo}
-use Rattle.commands.specs.Openings.{RefusesImage, open_fault}
+use Rattle.command_texts.specs.declared.fault.Fault.TheVariants as told
+use Rattle.commands.specs.Openings.{HasFound, IsFoundFault, IsFoundSo}
+use Rattle.commands.specs.Openings.{RefusesImage, RefusesSome, open_fault}
 
 module _ (Finds : OpenFault → Type 0) where
   -- what was found where an opening told it was found where the program tells it
@@ -93,15 +94,26 @@ module _ {D : Type 0} (g : disk.Ghosts D) where
       at_path Warrants (RefusesToOpen g) image fault kept told is
       (λ files left refuses. (refuses.told, refuses.stay))
 
-  -- so has one of files, whatever they hold
+  -- so has one of files that hold this
+  pub found_own :
+      (image : Image) (files left : Files D) (fault : OpenFault) → image_of g files ≡ image →
+      RefusesToOpen g files (fault, left) → IsFoundFault (HasFound g Warrants image) fault
+  found_own image files left fault is refuses =
+      found_if (HasFound g Warrants image) fault (λ (of : IsOfLedger fault).
+      found_in Warrants image files left fault is refuses.told refuses.stay of)
+
+  -- what was found in what these files held was found in some
   pub found_some :
-      (files left : Files D) (fault : OpenFault) → RefusesToOpen g files (fault, left) →
-      IsFoundFault (HasFoundSome g) fault
-  found_some files left fault refuses =
-      found_if (HasFoundSome g) fault (λ (of : IsOfLedger fault). (
-        image_of g files,
-        found_in Warrants (image_of g files) files left fault refl refuses.told refuses.stay of,
-      ))
+      (image : Image) (told : Fault) → RefusesImage g image told → RefusesSome g told
+  found_some image told.InUse found = tt
+  found_some image told.Unreadable found = tt
+  found_some image told.NotALedger found = tt
+  found_some image told.OldSchema found = (image, found)
+  found_some image told.NewerSchema found = (image, found)
+  found_some image told.Damaged found = (found.0, (image, found.1))
+  found_some image told.Behind found = tt
+  found_some image told.Unavailable found = tt
+  found_some image other found = absurd found
 
   -- a making speaks of a ledger's version, or of its rows, only where the disk has lied
   module _ (image : Image) (files left : Files D) where

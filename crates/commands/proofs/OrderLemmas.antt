@@ -64,8 +64,8 @@ module _ {D : Type 0} {g : disk.Ghosts D} where
     lived = λ live. (reads.answers.follows.lived live.0, usable);
     same = λ live. reads.same live.0;
     found = λ found f.
-        inl (found_read old new found reads.answers.follows.honest f
-        (reads.finds f.honest f.db f.may));
+        ∣ (inl (found_read old new found reads.answers.follows.honest f
+        (reads.finds f.honest f.db f.may))) ∣₁;
   }
 
   -- what carrying out an order makes of a store that may not be there

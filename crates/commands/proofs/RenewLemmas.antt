@@ -1,6 +1,6 @@
 -- A store that is opened again, or anew in its place.
-use Rattle.std.proofs.Common.{◌≡◌, ℕ, Bool, false, Option, Some, None, IfSome, Result, Ok, Err, OnOk, OnErr}
-use Rattle.std.proofs.Common.{IsTrue, ap, sym, subst}
+use Rattle.std.proofs.Common.{◌≡◌, refl, ℕ, Bool, true, false, Option, Some, None, IfSome, Result, Ok, Err, OnOk, OnErr}
+use Rattle.std.proofs.Common.{IsTrue, sym, subst}
 use Rattle.sqlite_disk.specs.declared.Disk as disk
 use Rattle.sqlite_disk.specs.declared.Files.{Files}
 use Rattle.chain.specs.Backends.{in_use}
@@ -17,10 +17,10 @@ use Rattle.store.specs.declared.place.Place.{Place}
 use Rattle.store.specs.declared.place.Place.TheVariants as at
 use Rattle.store.specs.declared.store.Store.{Store}
 use Rattle.command_texts.specs.declared.fault.Fault.{Fault}
-use Rattle.commands.specs.Kept.{kept_meaning, kept_of, kept_store, IsFoundLiveKept, IsLiveKept}
+use Rattle.commands.specs.Kept.{kept_meaning, kept_of, kept_store, IsFoundLiveKept}
 use Rattle.commands.specs.Kept.{answers, WasRefused}
-use Rattle.commands.specs.Kept.{Attends, IsOpenedAnew, MayBeCalled}
-use Rattle.commands.specs.Kept.{Renews, Stays, Again, Anew, Refuses, Tries, Looks}
+use Rattle.commands.specs.Kept.{Attends, IsGivenUp, IsOpenedAnew, IsRefusedAgain, MayBeCalled}
+use Rattle.commands.specs.Kept.{Renews, Stays, Again, Anew, Stands, Refuses, Gives_up, Tries, Looks}
 use Rattle.commands.specs.declared.kept.Kept.{Kept}
 use Rattle.commands.specs.declared.kept.Kept.TheVariants.{Open, Closed}
 
@@ -61,32 +61,50 @@ module _ {D : Type 0} {g : disk.Ghosts D} where
 
   -- a store was opened anew where one was refused, or that was refused too
   pub anew_so :
-      (opens : Option (Files D) → Tenants → Type 0) (old left new : Kept (Store D g))
+      (opens : Option (Files D) → Result Tenants Fault → Type 0) (old left new : Kept (Store D g))
       (result : Result (Unit {0}) Fault) → answers old ≡ false → WasRefused old left →
       OnOk result (IsOpenedAnew opens left new) → OnOk result (IsTrue (answers new)) →
-      OnOk result (IsSettled kept_store new) → OnErr result (new ≡ Closed) → Renews opens None old new
-  anew_so opens old left new (Ok done) silent refused anew answering settled closed =
+      OnOk result (IsSettled kept_store new) → OnErr result (IsGivenUp opens left) →
+      OnErr result (new ≡ Closed) → Renews opens None old new
+  anew_so opens old left new (Ok done) silent refused anew answering settled given_up closed =
       Anew left silent refused anew answering settled
-  anew_so opens old left new (Err fault) silent refused anew answering settled closed =
-      Refuses silent (ap (λ (kept : Kept (Store D g)). answers kept) closed)
-      (subst (λ (kept : Kept (Store D g)). IsLiveKept store_meaning.ledgers kept → ⊥) (sym closed)
-      (λ live. live))
+  anew_so opens old left new (Err fault) silent refused anew answering settled given_up closed =
+      Gives_up left silent refused given_up closed
+
+  refused_by :
+      (opens : Option (Files D) → Result Tenants Fault → Type 0) (old left : Store D g)
+      (fault : OpenFault) → answers (Open old) ≡ false → (again : IsRefusedAgain fault old left) →
+      (stands : Bool) → again.refused.stands ≡ stands → Renews opens None (Open old) (Open left)
+  refused_by opens old left fault silent again true is = Stands silent (fault, again, is)
+  refused_by opens old left fault silent again false is = Refuses silent (fault, again, is)
+
+  -- opening it again over its own files was refused, and the files hold what they held or do not
+  pub refused_so :
+      (opens : Option (Files D) → Result Tenants Fault → Type 0) (old left : Store D g)
+      (fault : OpenFault) → answers (Open old) ≡ false → IsRefusedAgain fault old left →
+      Renews opens None (Open old) (Open left)
+  refused_so opens old left fault silent again =
+      refused_by opens old left fault silent again again.refused.stands refl
 
   -- what is done where no store is opened anew is done where some may be
   pub attends_so :
-      (opens : Option (Files D) → Tenants → Type 0) (given : Option ℕ) (old new : Kept (Store D g))
+      (opens : Option (Files D) → Result Tenants Fault → Type 0) (given : Option ℕ)
+      (old new : Kept (Store D g))
       → Attends given old new → Renews opens given old new
   attends_so opens given old new (Stays same) = Stays same
   attends_so opens given old new (Again silent answering opened) = Again silent answering opened
   attends_so opens given old new (Anew left silent refused anew answering settled) =
       absurd anew.2
-  attends_so opens given old new (Refuses silent none dead) = Refuses silent none dead
+  attends_so opens given old new (Stands silent refused) = Stands silent refused
+  attends_so opens given old new (Refuses silent refused) = Refuses silent refused
+  attends_so opens given old new (Gives_up left silent refused given_up closed) =
+      absurd given_up.told
   attends_so opens given old new (Tries deed ending may stays moves) = Tries deed ending may stays moves
   attends_so opens given old new (Looks stays rest) = Looks stays rest
 
   -- so it is of what was done with a moment or without one
   pub attended_so :
-      {C : Type 0} (opens : Option (Files D) → Tenants → Type 0) (gives : C → ℕ → C → Type 0)
+      {C : Type 0} (opens : Option (Files D) → Result Tenants Fault → Type 0) (gives : C → ℕ → C → Type 0)
       (old new : Kept (Store D g)) (moments moments_now : C) →
       HasAttended gives Attends old moments new moments_now →
       HasAttended gives (Renews opens) old moments new moments_now

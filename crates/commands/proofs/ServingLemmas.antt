@@ -1,5 +1,5 @@
 -- What was done behind what was done before.
-use Rattle.std.proofs.Common.{◌≡◌, ◌≢◌, ◌≤◌, ◌<◌, refl, ℕ, List, Result, Ok, OnErr}
+use Rattle.std.proofs.Common.{◌≡◌, ◌≢◌, ◌≤◌, ◌<◌, refl, ℕ, List, [], ◌++◌, Result, Ok, OnErr}
 use Rattle.service.specs.Openings.{run_meaning, IsSettled}
 use Rattle.clients.specs.Deeds.{Act}
 use Rattle.polling.specs.Courses.{IsCourse, CoursesServeEachAlone, BooksOnlyWhatIsAsked, MomentsRise}
@@ -7,9 +7,9 @@ use Rattle.polling.specs.Ending.{Ends, Quiet, Long, most_turns}
 use Rattle.polling.specs.Ending as ending
 use Rattle.polling.specs.Laws.{EachIsServed, empty_hall}
 use Rattle.polling.specs.Seating.{Held, HoldsHall, replies_in}
-use Rattle.polling.specs.Serving.{Hall, Terms, Proceeds, tellings}
+use Rattle.polling.specs.Serving.{Hall, Terms, Proceeds, Begin, Then, tellings}
 use Rattle.command_texts.specs.declared.fault.Fault.{Fault}
-use Rattle.commands.specs.Serving.{ServesClients}
+use Rattle.commands.specs.Serving.{AreEachServed, AtEachPoint, ServesClients}
 use Rattle.commands.specs.declared.serving.Served.{Served}
 use Rattle.commands.specs.declared.serving.Served.TheVariants.{Enough}
 
@@ -21,6 +21,20 @@ module _ {S C P : Type 0} (r : Terms S C P) where
   ended_short is_enough old new replies short (ending.Enough enough) = absurd (short enough)
   ended_short is_enough old new replies short (Quiet quiet) = Quiet quiet
   ended_short is_enough old new replies short (Long turns) = Long turns
+
+  -- what holds of whatever was done did at each point
+  at_each_point :
+      {first : Hall S C P}
+      (Holds : (deeds : List Act) (last : Hall S C P) → Proceeds S C P r first deeds last → Type 0) →
+      ((deeds : List Act) (last : Hall S C P) (serves : Proceeds S C P r first deeds last) →
+      Holds deeds last serves) →
+      {deeds : List Act} {last : Hall S C P} (serves : Proceeds S C P r first deeds last) →
+      AtEachPoint Holds serves
+  at_each_point {first} Holds holds Begin = holds [] first Begin
+  at_each_point Holds holds (Then deeds last more next serves happens) = (
+    at_each_point Holds holds serves,
+    holds (deeds ++ more) next (Then deeds last more next serves happens),
+  )
 
   -- what was served of whom nothing had come
   pub serves_so :
@@ -42,7 +56,11 @@ module _ {S C P : Type 0} (r : Terms S C P) where
         ledgers_left = keeps.ledgers;
         moments_left = keeps.moments;
         peers_left = keeps.peers;
-        each = λ before client reads later may. each first last deeds served before client reads refl later may;
+        each =
+            at_each_point (AreEachServed r)
+            (λ deeds last so_far before client reads later may.
+            each first last deeds so_far before client reads refl later may)
+            served;
         course = λ renewals live. course renewals first last deeds served live settled;
         alone = λ renewals events began end is. alone renewals first last deeds served events began end is;
         booked = λ renewals events began since.

@@ -1,8 +1,10 @@
 -- Ledgers that may not be there, and a store that is opened again where its disk fails.
-use Rattle.std.specs.Prelude.{◌≡◌, ℕ, Bool, true, false, Option, Some, None, IsTrue}
-use Rattle.std.proofs.Common.{refl}
+use Rattle.std.specs.Prelude.{◌≡◌, ℕ, Bool, true, false, Option, Some, None, Result, Ok, Err, IsTrue}
+use Rattle.std.proofs.Common.{inl, refl, subst}
+use Rattle.std.proofs.Math.Logic.{∥∥₁_map}
 use Rattle.sqlite_disk.specs.declared.Disk as disk
 use Rattle.sqlite_disk.specs.declared.Files.{Files}
+use Rattle.records.specs.declared.unavailable.Unavailable.TheVariants.{Disk as DiskFailed}
 use Rattle.chain.specs.Backends.{in_use}
 use Rattle.chain.specs.Ledgers.{LedgersMeaning, Tenants, AreValid}
 use Rattle.service.specs.Attending.{MayTry}
@@ -14,9 +16,13 @@ use Rattle.polling.specs.Courses.{IsAtRest, Renewed, Stayed, Opened, Tried, Rest
 use Rattle.polling.specs.Courses as renewed
 use Rattle.polling.specs.Serving.{renews_seen}
 use Rattle.store.specs.StoreLaws.{store_meaning}
+use Rattle.openings.specs.declared.opening.OpenFault.{OpenFault}
+use Rattle.openings.specs.declared.opening.OpenFault.TheVariants as opening
 use Rattle.openings.specs.declared.refused.Refused.{Refused}
 use Rattle.store.specs.Stores.{GivesBack, IsLive, IsUsable, LeavesStore}
 use Rattle.store.specs.declared.store.Store.{Store}
+use Rattle.command_texts.specs.declared.fault.Fault.{Fault}
+use Rattle.commands.specs.Openings.{RefusesSome}
 use Rattle.commands.specs.declared.kept.Kept.{Kept}
 use Rattle.commands.specs.declared.kept.Kept.TheVariants.{Open, Closed}
 
@@ -126,24 +132,32 @@ module _ {D : Type 0} {g : disk.Ghosts D} where
   IsInPlace Closed (Open new) = ⊥
   IsInPlace Closed Closed = Unit {0}
 
-  -- a store that is live in use is live
-  pub live_kept :
-      (kept : Kept (Store D g)) → IsLiveKept (in_use store_meaning) kept
-      → IsLiveKept store_meaning.ledgers kept
-  live_kept (Open store) live = live.0
-  live_kept Closed live = live
-
-  -- opening a store again over its own files was refused, and what is left of it answers no calls
-  -- and is not live
-  pub record IsRefusedAgain (old left : Store D g) : Type 0 where
+  -- opening a store again over its own files was refused with this fault, and what is left of it
+  -- answers no calls and is not live
+  pub record IsRefusedAgain (fault : OpenFault) (old left : Store D g) : Type 0 where
     pub refused : Refused
+    pub why : refused.fault ≡ fault
     pub leaves : LeavesStore refused old left
     pub silent : left.ready ≡ false
     pub shut : IsLive left → ⊥
 
-  -- so it was; or there was none
+  -- so it was, and the files hold what they held
+  abbrev pub StandsRefused : (old new : Kept (Store D g)) → Type 0
+  StandsRefused (Open old) (Open new) =
+      (fault : OpenFault) × (again : IsRefusedAgain fault old new) × IsTrue again.refused.stands
+  StandsRefused (Open old) Closed = ⊥
+  StandsRefused Closed new = ⊥
+
+  -- or the database's own opening refused them
+  abbrev pub FallsRefused : (old new : Kept (Store D g)) → Type 0
+  FallsRefused (Open old) (Open new) =
+      (fault : OpenFault) × (again : IsRefusedAgain fault old new) × (again.refused.stands ≡ false)
+  FallsRefused (Open old) Closed = ⊥
+  FallsRefused Closed new = ⊥
+
+  -- it was refused since the disk failed; or there was no store
   abbrev pub WasRefused : (old left : Kept (Store D g)) → Type 0
-  WasRefused (Open old) (Open left) = IsRefusedAgain old left
+  WasRefused (Open old) (Open left) = IsRefusedAgain (opening.Unavailable DiskFailed) old left
   WasRefused (Open old) Closed = ⊥
   WasRefused Closed (Open left) = ⊥
   WasRefused Closed Closed = Unit {0}
@@ -155,19 +169,29 @@ module _ {D : Type 0} {g : disk.Ghosts D} where
   GivesFiles Closed (Some files) = ⊥
   GivesFiles Closed None = Unit {0}
 
-  -- a home was given the files of what is left as they were, and has opened a store in its place
+  -- an opener was given the files of what is left as they were, and has opened a store in its place
   abbrev pub IsOpenedAnew :
-      (Option (Files D) → Tenants → Type 0) → (left new : Kept (Store D g)) → Type 0
+      (Option (Files D) → Result Tenants Fault → Type 0) → (left new : Kept (Store D g)) → Type 0
   IsOpenedAnew opens left new =
       (files : Option (Files D)) × GivesFiles left files
-      × opens files (tenants_kept (in_use store_meaning) new)
+      × opens files (Ok (tenants_kept (in_use store_meaning) new))
+
+  -- an opener was given the files of what is left as they were, and has refused with this fault
+  pub record IsGivenUp (opens : Option (Files D) → Result Tenants Fault → Type 0)
+      (left : Kept (Store D g)) : Type 0 where
+    pub files : Option (Files D)
+    pub given : GivesFiles left files
+    pub fault : Fault
+    pub found : RefusesSome g fault
+    pub told : opens files (Err fault)
 
   -- What is made of a store between turns, given this moment if one was asked for, where an opener
-  -- opens these. It stays as it is. Or one that answers no calls is opened again over its own files,
-  -- and is what was to be found there. Or that is refused, and the opener opens a store in its place.
-  -- Or that is refused too, and none answers. Or a deed was tried on it that a service may do, and
-  -- this came of it. Or an operator has asked for what is there, and nothing has changed.
-  pub data Renews (opens : Option (Files D) → Tenants → Type 0) (given : Option ℕ)
+  -- answers these. It stays as it is. Or one that answers no calls is opened again over its own
+  -- files, and is what was to be found there. Or that is refused, and the files hold what they held,
+  -- or the database's own opening refuses them. Or it is refused since the disk failed, and the
+  -- opener opens a store in its place, or refuses that too. Or a deed was tried on it that a service
+  -- may do, and this came of it. Or an operator has asked for what is there, and nothing has changed.
+  pub data Renews (opens : Option (Files D) → Result Tenants Fault → Type 0) (given : Option ℕ)
       (old new : Kept (Store D g)) : Type 0 where
     Stays : new ≡ old → Renews opens given old new
     Again :
@@ -177,9 +201,11 @@ module _ {D : Type 0} {g : disk.Ghosts D} where
         (left : Kept (Store D g)) → answers old ≡ false → WasRefused old left →
         IsOpenedAnew opens left new → IsTrue (answers new) → IsSettled kept_store new
         → Renews opens given old new
-    Refuses :
-        answers old ≡ false → answers new ≡ false → (IsLiveKept store_meaning.ledgers new → ⊥)
-        → Renews opens given old new
+    Stands : answers old ≡ false → StandsRefused old new → Renews opens given old new
+    Refuses : answers old ≡ false → FallsRefused old new → Renews opens given old new
+    Gives_up :
+        (left : Kept (Store D g)) → answers old ≡ false → WasRefused old left →
+        IsGivenUp opens left → new ≡ Closed → Renews opens given old new
     Tries :
         (deed : Deed) (ending : course.Ending) → MayTry given deed → IsInPlace old new
         → Moves kept_store old (course.Tried deed ending) new → Renews opens given old new
@@ -187,24 +213,55 @@ module _ {D : Type 0} {g : disk.Ghosts D} where
 
   -- the same where no store is opened in the place of another
   abbrev pub Attends : (given : Option ℕ) (old new : Kept (Store D g)) → Type 0
-  Attends given old new = Renews (λ files tenants. ⊥) given old new
+  Attends given old new = Renews (λ files told. ⊥) given old new
+
+  -- files that were refused, and hold what they held, are at rest
+  pub refused_rests : (old new : Kept (Store D g)) → StandsRefused old new → IsAtRest kept_store old new
+  refused_rests (Open old) (Open new) refused =
+      let again = refused.1 in
+      let keeps = again.leaves.stand refused.2 in
+      record {
+        lived = λ live. absurd (again.shut live.0);
+        same = λ live. absurd (again.shut live.0);
+        found = λ found may.
+            ∥∥₁_map (keeps.found may.honest may.db may.may) (λ was.
+            inl (record {
+              honest = keeps.honest may.honest;
+              db = may.db;
+              may = was;
+              agrees = may.agrees;
+            }));
+      }
+  refused_rests (Open old) Closed refused = absurd refused
+  refused_rests Closed new refused = absurd refused
+
+  -- files that the database's own opening refused are not live
+  pub refused_falls :
+      (old new : Kept (Store D g)) → FallsRefused old new → kept_store.is_live new → ⊥
+  refused_falls (Open old) (Open new) refused live = refused.1.shut live.0
+  refused_falls (Open old) Closed refused live = refused
+  refused_falls Closed new refused live = refused
 
   -- the same as it is told of any ledgers
   abbrev pub renewal_of :
-      (opens : Option (Files D) → Tenants → Type 0) (given : Option ℕ) (old new : Kept (Store D g))
+      (opens : Option (Files D) → Result Tenants Fault → Type 0) (given : Option ℕ) (old new : Kept (Store D g))
       → Renews opens given old new → Renewed kept_store given old new
   renewal_of opens given old new (Stays same) = Stayed same
   renewal_of opens given old new (Again silent answering opened) = Opened opened
   renewal_of opens given old new (Anew left silent refused anew answering settled) =
       renewed.Anew settled
-  renewal_of opens given old new (Refuses silent none dead) =
-      renewed.Refused (λ live. dead (live_kept new live))
+  renewal_of opens given old new (Stands silent refused) = Rested (refused_rests old new refused)
+  renewal_of opens given old new (Refuses silent refused) =
+      renewed.Refused (refused_falls old new refused)
+  renewal_of opens given old new (Gives_up left silent refused given_up closed) =
+      renewed.Refused
+      (λ live. subst (λ (kept : Kept (Store D g)). kept_store.is_live kept) closed live)
   renewal_of opens given old new (Tries deed ending may stays moves) = Tried deed ending may moves
   renewal_of opens given old new (Looks stays rest) = Rested rest
 
   -- and as it is seen between messages: nothing is opened inside of a round
   abbrev pub renewal_seen :
-      (opens : Option (Files D) → Tenants → Type 0) (given : Option ℕ)
+      (opens : Option (Files D) → Result Tenants Fault → Type 0) (given : Option ℕ)
       (old new : SeenAt (Kept (Store D g)))
       → renews_seen (Renews opens) given old new
       → Renewed (run_meaning (seen (kept_meaning (in_use store_meaning)))) given old new

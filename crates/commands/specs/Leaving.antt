@@ -1,5 +1,5 @@
 -- What has served, as it is left, and how that has come.
-use Rattle.std.specs.Prelude.{◌≡◌, ℕ, Bool, List, Option, None, Ok, Err, IfSome, IsTrue, ⊤}
+use Rattle.std.specs.Prelude.{◌≡◌, ℕ, Bool, List, Option, None, Result, Ok, Err, IfSome, IsTrue, ⊤}
 use Rattle.std.specs.Net.Socket.{socket_ip, socket_port}
 use Rattle.sqlite_disk.specs.declared.Disk as disk
 use Rattle.sqlite_disk.specs.declared.Files.{Files}
@@ -34,7 +34,8 @@ module _ {D : Type 0} {g : disk.Ghosts D} where
 
 module _ {D : Type 0} {g : disk.Ghosts D} {C : Type 0} where
   -- these peers were served so, and that ended with a fault, behind which nothing of it is left
-  pub record HasFailedServing {P : Type 0} (opens : Option (Files D) → Tenants → Type 0)
+  pub record HasFailedServing {P : Type 0}
+      (opens : Option (Files D) → Result Tenants Fault → Type 0)
       (gives : C → ℕ → C → Type 0) (does : P → Doing → P → Type 0) (first : Kept (Store D g))
       (moments : C) (peers : P) (most : ℕ) (fault : Fault) : Type 0 where
     pub kept : Kept (Store D g)
@@ -47,7 +48,7 @@ module _ {D : Type 0} {g : disk.Ghosts D} {C O : Type 0} where
   -- what is left has served these peers a store, or what stands in its place, from these moments
   -- on, until so many messages were replied to, or it was asked to end
   abbrev pub HasServedStore :
-      {P : Type 0} → (Option (Files D) → Tenants → Type 0) → (C → ℕ → C → Type 0)
+      {P : Type 0} → (Option (Files D) → Result Tenants Fault → Type 0) → (C → ℕ → C → Type 0)
       → (P → Doing → P → Type 0) → Kept (Store D g) → C → P → ℕ → EndedService D P C O g → Type 0
   HasServedStore opens gives does first moments peers most ended =
       ServesKept opens gives does first moments peers most ended.kept ended.moments ended.peers
@@ -64,10 +65,10 @@ module _ {D : Type 0} {g : disk.Ghosts D} {C O : Type 0} where
     pub begins : IsServedFirst standby first
     pub moments : C
     pub served :
-        HasServedStore (λ files tenants. Unit {0}) (GivesTold told) (λ old doing new. ⊤)
+        HasServedStore (λ files told. Unit {0}) (GivesTold told) (λ old doing new. ⊤)
         (kept_of first) moments listening most ended
     pub course :
         HasLed kept_store
-        (IsSince (renewal_seen (λ files tenants. Unit {0}))
+        (IsSince (renewal_seen (λ files told. Unit {0}))
         (empty_hall (Whole (kept_of first)) moments listening) served.serves.served.deeds
         served.serves.served.last served.serves.served.served) ended.kept

@@ -1,5 +1,5 @@
 -- What serving many clients comes to, until so many messages were replied to.
-use Rattle.std.specs.Prelude.{◌≡◌, ◌≢◌, ◌≤◌, ◌<◌, ℕ, List, Option, Result, Ok, OnErr}
+use Rattle.std.specs.Prelude.{◌≡◌, ◌≢◌, ◌≤◌, ◌<◌, ℕ, List, [], ◌++◌, Option, Result, Ok, OnErr}
 use Rattle.std.specs.List.{AllByRecursion}
 use Rattle.sqlite_disk.specs.declared.Disk as disk
 use Rattle.sqlite_disk.specs.declared.Files.{Files}
@@ -18,7 +18,7 @@ use Rattle.polling.specs.Ending.{most_turns}
 use Rattle.polling.specs.Laws.{ReadsThrough, empty_hall, machines_in}
 use Rattle.polling.specs.Peers.{Doing}
 use Rattle.polling.specs.Seating.{replies_in}
-use Rattle.polling.specs.Serving.{Hall, Terms, Proceeds, rules, tellings}
+use Rattle.polling.specs.Serving.{Hall, Terms, Proceeds, Begin, Then, rules, tellings}
 use Rattle.store.specs.StoreLaws.{store_meaning}
 use Rattle.store.specs.declared.store.Store.{Store}
 use Rattle.commands.specs.Behind.{MayWait}
@@ -29,12 +29,34 @@ use Rattle.commands.specs.declared.serving.Served.TheVariants.{Enough}
 use Rattle.commands.specs.declared.kept.Kept.{Kept}
 use Rattle.command_texts.specs.declared.fault.Fault.{Fault}
 
+module _ {S C P : Type 0} {r : Terms S C P} {first : Hall S C P}
+    (Holds : (deeds : List Act) (last : Hall S C P) → Proceeds S C P r first deeds last → Type 0)
+  where
+    -- it holds of all that was done, and did at each point of it
+    abbrev pub AtEachPoint :
+        {deeds : List Act} {last : Hall S C P} → Proceeds S C P r first deeds last → Type 0
+    AtEachPoint Begin = Holds [] first Begin
+    AtEachPoint (Then deeds last more next serves happens) =
+        AtEachPoint serves × Holds (deeds ++ more) next (Then deeds last more next serves happens)
+
+-- What is written to a client is a beginning of the replies to its own messages, in order, one a
+-- message. That holds as long as its replies went on as they were begun.
+abbrev pub AreEachServed :
+    {S C P : Type 0} (r : Terms S C P) {first : Hall S C P} (deeds : List Act) (last : Hall S C P)
+    → Proceeds S C P r first deeds last → Type 0
+AreEachServed r deeds last so_far =
+    (before : Tenants) (client : ℕ)
+    → ReadsThrough before client so_far
+    → (later : List ℕ)
+    → MayCome (last.room.talks client).unread later
+    → IsClientServed r.means r.gives (come_from client deeds) later (written_to client deeds)
+    (machines_in before so_far client) (last.room.talks client)
+
 -- Clients were served from the first that came, until as many messages were replied to as there were
 -- to be. Or fewer were, since it was asked to end. Or with a fault fewer were, and peers told
--- 2^64 - 1 times at least what had happened. Each was written a beginning of the replies to its own
--- messages, in order, one a message, as long as its replies went on as they were begun. All that was
--- done is a course, in which each tenant sees its own deeds alone. What no message asked for books
--- nothing, and moments do not fall if those that are given do not.
+-- 2^64 - 1 times at least what had happened. At each point of it each client was served its own
+-- replies. All that was done is a course, in which each tenant sees its own deeds alone. What no
+-- message asked for books nothing, and moments do not fall if those that are given do not.
 pub record ServesClients {S C P : Type 0} (r : Terms S C P) (ledgers : S) (moments : C) (peers : P)
     (most : ℕ) (ledgers_now : S) (moments_now : C) (peers_now : P) (result : Result Served Fault) :
     Type 0 where
@@ -44,13 +66,7 @@ pub record ServesClients {S C P : Type 0} (r : Terms S C P) (ledgers : S) (momen
   pub ledgers_left : last.room.ledgers ≡ ledgers_now
   pub moments_left : last.room.moments ≡ moments_now
   pub peers_left : last.peers ≡ peers_now
-  pub each :
-      (before : Tenants) (client : ℕ)
-      → ReadsThrough before client served
-      → (later : List ℕ)
-      → MayCome (last.room.talks client).unread later
-      → IsClientServed r.means r.gives (come_from client deeds) later (written_to client deeds)
-      (machines_in before served client) (last.room.talks client)
+  pub each : AtEachPoint (AreEachServed r) served
   pub course :
       (renewals : AreRenewals r)
       → IsFoundLive (run_meaning r.means) ledgers
@@ -76,7 +92,7 @@ pub record ServesClients {S C P : Type 0} (r : Terms S C P) (ledgers : S) (momen
   pub asked : OnErr result (most_turns ≤ tellings served)
 
 module _ {D : Type 0} {g : disk.Ghosts D} {C P : Type 0}
-    (opens : Option (Files D) → Tenants → Type 0) (gives : C → ℕ → C → Type 0)
+    (opens : Option (Files D) → Result Tenants Fault → Type 0) (gives : C → ℕ → C → Type 0)
     (does : P → Doing → P → Type 0) where
   -- messages are answered by a store, or by ledgers that are not there; a store that answers calls
   -- stays as it is; and only a batch waits of which a tenant is behind

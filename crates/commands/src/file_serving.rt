@@ -21,7 +21,7 @@ use metered_disk::Meter;
 use records::Streamed;
 use reply_marks::Marks;
 use sqlite::Files;
-use sqlite_disk::Disk;
+use sqlite_disk::{Disk, Unknown};
 use std::cell::Cell;
 use std::net::SocketAddr;
 use std::time::{Clock, Duration};
@@ -59,7 +59,8 @@ impl<'a> Home<ServedFile<'a>> for HostFile<'a> {
     ) -> Result<InUse<Store<ServedFile<'a>>>, Fault> {
         *left = None;
         self.began.set(self.now());
-        open_served(self.rt, self.path, &self.audit, self.meter, self.marks)
+        let (rt, path) = (self.rt, self.path);
+        open_served(rt, path, Unknown, &self.audit, self.meter, self.marks)
     }
 
     fn tell(&self, fault: Fault) {

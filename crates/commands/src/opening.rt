@@ -6,7 +6,8 @@ ghost use Rattle.migrate.specs.Ledgers.{IsMigratable, IsOpenedToMigrate};
 ghost use Rattle.openings.specs.Found.{AreOnlyThere, Yields};
 ghost use Rattle.store.specs.Stores.{AnswersCalls};
 ghost use Rattle.commands.specs.Holding.{IsOpenedOrMade, IsFoundAs, IsFrom, IsMade};
-ghost use Rattle.commands.specs.Openings.{HasFoundSome, IsFoundFault, IsOpeningFault, IsUnopened, open_fault};
+ghost use Rattle.openings.specs.Told.{Warrants};
+ghost use Rattle.commands.specs.Openings.{HasFound, IsFoundFault, IsOpeningFault, IsUnopened, open_fault};
 ghost use Rattle.commands.specs.Openings.{RefusesImage, RefusesOlder, RefusesSome};
 
 use crate::counting::CountingAudit;
@@ -20,7 +21,7 @@ use openings::opening::files_at;
 use records::Unavailable;
 use reply_marks::Marks;
 use sqlite::{Files, Options};
-use sqlite_disk::{Disk, Start, Unknown};
+use sqlite_disk::{Disk, Start};
 use sqlite_std_file::{File, FileFrom};
 use std::fs::{self, OpenOptions};
 use std::hash::{BuildHasher, RandomState};
@@ -71,20 +72,24 @@ pub(crate) fn open_file<St: Start>(
 /// A file that is served, whose calls a meter counts.
 pub type ServedFile<'a> = Metered<'a, File, HostRuntime>;
 
-/// The ledger in a file that is there, to be served, behind an audit. Replies are marked from then
+/// The ledger in a file that is there, to be served, after an audit. Replies are marked from then
 /// on.
-pub(crate) fn open_served<'a>(
+pub(crate) fn open_served<'a, St: Start>(
     rt: &'a HostRuntime,
     path: &str,
+    start: St,
     audit: &CountingAudit,
     meter: &'a Meter,
     marks: &Marks<'_>,
-) -> Result<InUse<Store<ServedFile<'a>>>, Fault>
+) -> Result<InUse<Store<Metered<'a, FileFrom<St>, HostRuntime>>>, Fault>
     ensures ready { IfOk result AnswersCalls }
-    ensures fault { IfErr result (RefusesSome ⟦<ServedFile<'a> as Disk>⟧) }
+    ensures own { IfErr result
+        (RefusesImage ⟦<Metered<'a, FileFrom<St>, HostRuntime> as Disk>⟧ (image_at St.Start)) }
+    ensures fault { IfErr result
+        (RefusesSome ⟦<Metered<'a, FileFrom<St>, HostRuntime> as Disk>⟧) }
 {
     marks.end();
-    match open_measured(rt, path, audit, meter) {
+    match open_measured(rt, path, start, audit, meter) {
         Ok(store) => {
             begin_marks(rt, path, audit.clock(), marks)?;
             Ok(store)
@@ -93,17 +98,19 @@ pub(crate) fn open_served<'a>(
     }
 }
 
-fn open_measured<'a, A: Audit>(
+fn open_measured<'a, St: Start, A: Audit>(
     rt: &'a HostRuntime,
     path: &str,
+    start: St,
     audit: &A,
     meter: &'a Meter,
-) -> Result<InUse<Store<ServedFile<'a>>>, OpenFault>
+) -> Result<InUse<Store<Metered<'a, FileFrom<St>, HostRuntime>>>, OpenFault>
     ensures ready { IfOk result AnswersCalls }
-    ensures fault { IfErr result (IsFoundFault (HasFoundSome ⟦<ServedFile<'a> as Disk>⟧)) }
+    ensures fault { IfErr result (IsFoundFault
+        (HasFound ⟦<Metered<'a, FileFrom<St>, HostRuntime> as Disk>⟧ Warrants (image_at St.Start))) }
 {
     find(rt, path)?;
-    let files = measured(files_at(rt, path, Unknown)?, rt, meter);
+    let files = measured(files_at(rt, path, start)?, rt, meter);
     match Store::open(rt.alloc(), files, options(rt, SERVED_PAGES)?, audit) {
         Ok(store) => Ok(InUse { backend: store }),
         Err((fault, _files)) => Err(fault),

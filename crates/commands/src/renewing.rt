@@ -8,7 +8,8 @@ ghost use Rattle.store.specs.Stores.{AnswersCalls};
 ghost use Rattle.store.specs.StoreLaws.{store_meaning};
 ghost use Rattle.commands.specs.Behind.{MayWait};
 ghost use Rattle.commands.specs.Kept.{answers, kept_store, IsLiveKept};
-ghost use Rattle.commands.specs.Kept.{Attends, GivesFiles, IsOpenedAnew, IsRefusedAgain, Renews};
+ghost use Rattle.commands.specs.Kept.{Attends, GivesFiles, IsGivenUp, IsOpenedAnew};
+ghost use Rattle.commands.specs.Kept.{IsRefusedAgain, Renews};
 ghost use Rattle.commands.specs.Openings.{IsOpeningFault};
 
 use crate::kept::Kept;
@@ -39,19 +40,22 @@ const LONGEST_PAUSE: u64 = 60;
 
 /// Where a store is opened anew.
 pub trait Home<D: Disk + Drop> {
-    ghost use Rattle.std.specs.Prelude.{IfErr, IfOk, Option};
+    ghost use Rattle.std.specs.Prelude.{Err, IfErr, IfOk, Ok, Option, Result};
     ghost use Rattle.sqlite_disk.specs.declared.Files.{Files};
     ghost use Rattle.chain.specs.Ledgers.{Tenants};
     ghost use Rattle.store.specs.Stores.{AnswersCalls, tenants_of};
+    ghost use Rattle.command_texts.specs.declared.fault.Fault.{Fault};
     ghost use Rattle.commands.specs.Openings.{IsOpeningFault, RefusesSome};
 
-    // Which tenants a store may have that it opens in the place of one that gave these files back.
-    ghost opens: { Option (Files D) → Tenants → Type 0 } = { λ _ _. Unit {0} };
+    // Which tenants a store may have that it opens in the place of one that gave these files back, and
+    // with which fault it may refuse that.
+    ghost opens: { Option (Files D) → Result Tenants Fault → Type 0 } = { λ _ _. Unit {0} };
 
     /// Opens a store in the place of one that gave these files back, if there was one, and first
     /// lets go of them.
     fn open_store(&self, left: &mut Option<Files<D>>) -> Result<InUse<Store<D>>, Fault>
-        ensures opens { IfOk result (λ store. opens left.old (tenants_of store)) }
+        ensures opens { IfOk result (λ store. opens left.old (Ok (tenants_of store))) }
+        ensures refuses { IfErr result (λ fault. opens left.old (Err fault)) }
         ensures ready { IfOk result AnswersCalls }
         ensures fault { IfErr result (RefusesSome D.Disk) };
 
@@ -268,7 +272,7 @@ fn reopened<D: Disk + Drop>(store: &mut InUse<Store<D>>) -> Result<(), OpenFault
     ensures ready { OnOk result (AnswersCalls store.new) }
     ensures opened { OnOk result (IsOpened (run_meaning (in_use store_meaning)) store.old
         store.new) }
-    ensures refused { OnErr result (IsRefusedAgain store.old store.new) }
+    ensures refused { IfErr result (λ fault. IsRefusedAgain fault store.old store.new) }
 {
     let opened = store.backend.reopen(&FullAudit);
     is_settled(store);
@@ -299,6 +303,7 @@ fn open_anew<D: Disk + Drop, H: Home<D>>(
     ensures answers { OnOk result (IsTrue (answers kept.new)) }
     ensures anew { OnOk result (IsOpenedAnew H.opens kept.old kept.new) }
     ensures settled { OnOk result (IsSettled kept_store kept.new) }
+    ensures given_up { OnErr result (IsGivenUp H.opens kept.old) }
     ensures refused { OnErr result (kept.new ≡ Kept.Closed) }
     ensures fault { IfErr result IsOpeningFault }
 {

@@ -61,17 +61,18 @@ impl Operator for Site<'_> {
         self.bell.note(counts);
     }
 
-    // The clock in a reply is marked before its first byte goes out.
-    fn replies(&self, reply: &[u8]) {
+    // The clock in a reply is marked before its first byte goes out, also if its client is gone.
+    fn mark(&self, reply: &[u8]) {
         self.marks.note(reply);
+    }
+
+    fn replies(&self, reply: &[u8]) {
         let mut tally = self.bell.tally();
         tally.replied(reply);
         self.bell.set_tally(tally);
     }
 
-    // Also of a client that sends no more, for which `replies` is not called.
     fn answered(&self, batch: Batch, reply: &[u8]) {
-        self.marks.note(reply);
         let mut tally = self.bell.tally();
         tally.answered(batch, Events::told_in(reply));
         self.bell.set_tally(tally);

@@ -70,8 +70,8 @@ impl Peers for Listening<'_> {
         self.sockets.shared(messages);
     }
 
-    fn answered(&self, batch: Batch, reply: &[u8]) {
-        self.sockets.answered(batch, reply);
+    fn answered(&mut self, client: u64, batch: Option<Batch>, reply: &[u8]) {
+        self.sockets.answered(client, batch, reply);
     }
 
     fn wants(&mut self, client: u64, bytes: u64) {

@@ -1,5 +1,5 @@
 -- What was asked for in a course, and what a service did of its own accord.
-use Rattle.std.proofs.Common.{◌≡◌, ◌⊎◌, inl, inr, refl, sym, subst, ℕ, List, [], ◌∷◌, ◌++◌, Option}
+use Rattle.std.proofs.Common.{◌≡◌, ◌⊎◌, inl, inr, refl, sym, subst, ℕ, List, [], Option}
 use Rattle.std.specs.List.{AllByRecursion}
 use Rattle.ledger_http.specs.declared.reply.Reply.{Reply}
 use Rattle.chain.specs.Ledgers.{LedgersMeaning, Tenants}

@@ -155,7 +155,7 @@ module _ {S C P : Type 0} (t : LedgersMeaning S) (gives : C → ℕ → C → Ty
 
   -- a round was kept, and its replies are put
   pub kept_and_put :
-      (ledgers ledgers_now : S) (moments moments_now : C) (peers : P)
+      (ledgers ledgers_now : S) (moments moments_now : C) (peers peers_now : P)
       (seats seats_now seats_then : ℕ → Option Talk) (next : ℕ) (messages : List Message)
       (replies : List Reply) (count : ℕ) → AreSame seats seats_now →
       AreGiven gives moments (moments_of messages) moments_now →
@@ -163,23 +163,23 @@ module _ {S C P : Type 0} (t : LedgersMeaning S) (gives : C → ℕ → C → Ty
       (t.is_live ledgers_now →
       TakeTurns messages (t.tenants ledgers) replies (t.tenants ledgers_now)) →
       IsFoundAgain t ledgers_now →
-      ArePut t gives renews waits does messages replies seats_now seats_then count →
+      ArePut t gives renews waits does messages replies peers seats_now peers_now seats_then count →
       ServesEach (rules t gives renews waits does) (held (Whole ledgers) moments peers seats next)
-      (held (Whole ledgers_now) moments_now peers seats_then next) count
-  kept_and_put ledgers ledgers_now moments moments_now peers seats seats_now seats_then next messages
-      replies count same given lived stays turns found put =
+      (held (Whole ledgers_now) moments_now peers_now seats_then next) count
+  kept_and_put ledgers ledgers_now moments moments_now peers peers_now seats seats_now seats_then next
+      messages replies count same given lived stays turns found put =
       let r = rules t gives renews waits does in
       let begun = Within ledgers_now (t.tenants ledgers) in
       then_each r (held (Whole ledgers) moments peers seats next)
       (held (Whole ledgers) moments peers seats_now next)
-      (held (Whole ledgers_now) moments_now peers seats_then next) 0 count count (omega arith)
+      (held (Whole ledgers_now) moments_now peers_now seats_then next) 0 count count (omega arith)
       (unchanged same (λ one found. found))
       (then_each r (held (Whole ledgers) moments peers seats_now next)
       (held begun moments peers seats_now next)
-      (held (Whole ledgers_now) moments_now peers seats_then next) 0 count count (omega arith)
+      (held (Whole ledgers_now) moments_now peers_now seats_then next) 0 count count (omega arith)
       (rests_all r (Whole ledgers) begun moments moments [] peers seats_now next
       (record { lived = lived; same = λ live digest. refl; found = λ found may. may }) refl)
-      (put ledgers_now (t.tenants ledgers) moments moments_now peers next stays found
+      (put ledgers_now (t.tenants ledgers) moments moments_now next stays found
       (record { given = given; turns = turns })))
 
   -- a round was lost with the disk, and its clients are told

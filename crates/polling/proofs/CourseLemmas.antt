@@ -1,5 +1,6 @@
 -- Serving as a course, step by step.
 use Rattle.std.proofs.Common.{◌≡◌, ◌⊎◌, inl, inr, refl, sym, subst, ℕ, Bool, List, [], ◌∷◌, ◌++◌, Option}
+use Rattle.std.proofs.Math.Logic.{∥∥₁_elim}
 use Rattle.std.proofs.Math.Path.{fun_ext}
 use Rattle.std.proofs.lemmas.List.{append-nil}
 use Rattle.std.specs.List.{AllByRecursion, flat_map}
@@ -13,8 +14,8 @@ use Rattle.service.specs.Courses.{Event, Reopened, IsStill, HappenInTurn, untold
 use Rattle.service.specs.Courses as course
 use Rattle.service.specs.Openings.{RunMeaning, run_meaning, IsSettled, IsFoundLive}
 use Rattle.service.specs.Openings.{ResponsesMove, MayBegin}
-use Rattle.service.specs.Openings.{HasLed, GoesOn, IsFree, FoundAfterAll, All_as_now, All_as_before, All_done}
-use Rattle.service.specs.OpeningLaws.{event_more, events_more, same_more, opened_more, begun_anew, none_yet}
+use Rattle.service.specs.Openings.{HasLed, Leads, GoesOn, IsFree, FoundAfterAll, All_as_now, All_as_before, All_done}
+use Rattle.service.specs.OpeningLaws.{event_more, events_more, here_more, found_more, same_more, opened_more, begun_anew, none_yet}
 use Rattle.service.specs.EventLaws.{all_append, unavailable_tells_nothing, still_happen}
 use Rattle.service.specs.Replies.{unavailable}
 use Rattle.service.specs.OwnDeeds.{EachSeesItself}
@@ -61,13 +62,14 @@ rest_more :
     {S : Type 0} (t : RunMeaning S) (Since Now : List Event → Tenants → Type 0) (old new : S) →
     IsAtRest t old new → GoesOn Since [] Now → HasLed t Since old → HasLed t Now new
 rest_more t Since Now old new rest on led =
-    events_more Since Now t old new [] on tt
-    (record {
-      happen = λ live. fun_ext (rest.same live);
-      lived = rest.lived;
-      found = λ found may. found_at_rest t old new found (rest.found found may);
-    })
-    led
+    let here : (t.is_live new → ∥ Leads Now (t.tenants new) ∥₁) =
+    λ live. here_more Since Now t old new [] on tt (fun_ext (rest.same live)) (rest.lived live) led in
+    record {
+      here = here;
+      found = λ found may.
+          ∥∥₁_elim (rest.found found may) squash₁ (λ was.
+          found_more Since Now t old new [] found on tt here led (found_at_rest t old new found was));
+    }
 
 -- so does what a steward does
 opening_more :

@@ -11,7 +11,7 @@ use Rattle.clients.specs.Deeds.{Act, Came, Replied, Continued, Wrote, client_of,
 use Rattle.clients.specs.Deeds as deed
 use Rattle.clients.proofs.ClientLemmas.{at_other, at_own, by_client}
 use Rattle.service.specs.Seen.{Whole}
-use Rattle.polling.specs.Peers.{Gave, Ended, Took, Stirred, Hands}
+use Rattle.polling.specs.Peers.{Gave, Ended, Handed, Took, Stirred, Hands}
 use Rattle.polling.specs.Standing.{Standing, Owed, begun, rested, with_standing, stands_after, MayGo, Lost_piece}
 use Rattle.service.specs.Openings.{run_meaning, IsSettled}
 use Rattle.polling.specs.Serving.{Hall, hall, Terms, Settles, IsDueOf, Occurs, Did, Stirs, Goes, Again, Proceeds, Begin, Then}
@@ -74,7 +74,7 @@ pub did_one :
     (peers peers_now : P) (talk talk_now : Talk) (talks : ℕ → Talk) (gone : ℕ → Bool)
     (stands : ℕ → Standing) → gone (client_of deed) ≡ false → IsDueOf deed talk →
     Does r.means r.gives deed ledgers moments talk ledgers_now moments_now talk_now →
-    Settles r.means deed ledgers_now → Hands r.does deed peers peers_now →
+    Settles r.means deed ledgers_now → Hands r.does deed talk_now peers peers_now →
     Proceeds S C P r (hall ledgers moments peers (with_talk (client_of deed) talk talks) gone stands) (deed ∷ [])
     (hall ledgers_now moments_now peers_now (with_talk (client_of deed) talk_now talks) gone
     (stands_after (deed ∷ []) stands))
@@ -111,7 +111,9 @@ did_one {S} {C} {P} r deed ledgers ledgers_now moments moments_now peers peers_n
           with_talk-other client other talk_now talks differ
           ∙ sym (with_talk-other client other talk talks differ);
     })
-    settled hands)
+    settled
+    (subst (λ (now : Talk). Hands r.does deed now peers peers_now)
+    (sym (with_talk-own client talk_now talks)) hands))
 
 -- what has not changed between transactions has not changed
 pub whole_unmoved :
@@ -250,7 +252,7 @@ module _ {S C P : Type 0} {r : Terms S C P} {client : ℕ} where
       {ledgers ledgers_now : S} {moments moments_now : C} {peers peers_now : P}
       {talk talk_now : Talk} (deed : Act) → client_of deed ≡ client → IsDueOf deed talk →
       Does r.means r.gives deed ledgers moments talk ledgers_now moments_now talk_now →
-      Settles r.means deed ledgers_now → Hands r.does deed peers peers_now →
+      Settles r.means deed ledgers_now → Hands r.does deed talk_now peers peers_now →
       Stays r client ledgers moments peers talk ledgers_now moments_now peers_now talk_now false
       (replies_in (deed ∷ []))
   deed_done {ledgers} {ledgers_now} {moments} {moments_now} {peers} {peers_now} {talk} {talk_now} deed
@@ -316,12 +318,13 @@ module _ {S C P : Type 0} {r : Terms S C P} {client : ℕ} where
       deed_done (Continued client part) refl tt
       (record { ledgers_same = refl; moments_same = refl; same = is }, next) tt refl
 
-  -- a message was replied to
+  -- a message was replied to, and its reply handed over
   pub replied :
-      {ledgers ledgers_now : S} {moments moments_now : C} {peers : P} {talk talk_now : Talk}
+      {ledgers ledgers_now : S} {moments moments_now : C} {peers peers_now : P} {talk talk_now : Talk}
       {reply : Reply} → may_answer talk ≡ true →
       IsReplyReady r.means r.gives ledgers moments talk reply ledgers_now moments_now talk_now →
       IsSettled (run_meaning r.means) ledgers_now →
-      Stays r client ledgers moments peers talk ledgers_now moments_now peers talk_now false 1
-  replied {reply} may has settled =
-      deed_done (Replied client reply) refl tt (has, may) settled refl
+      r.does peers (Handed client talk_now.unsent) peers_now →
+      Stays r client ledgers moments peers talk ledgers_now moments_now peers_now talk_now false 1
+  replied {reply} may has settled does =
+      deed_done (Replied client reply) refl tt (has, may) settled does

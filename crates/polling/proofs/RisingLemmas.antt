@@ -1,5 +1,5 @@
 -- The moments of a course do not fall.
-use Rattle.std.proofs.Common.{◌≡◌, ◌≤◌, ◌⊎◌, inl, inr, refl, sym, ap, subst, ℕ, List, [], ◌∷◌, ◌++◌, Option, Some, None, arith}
+use Rattle.std.proofs.Common.{◌≡◌, ◌≤◌, ◌⊎◌, inl, inr, refl, sym, subst, ℕ, List, [], ◌∷◌, ◌++◌, Option, Some, None, arith}
 use Rattle.ledger_http.specs.declared.reply.Reply.{Reply}
 use Rattle.chain.specs.Ledgers.{LedgersMeaning, Tenants}
 use Rattle.service.specs.Attending.{MayTry, Changes_key, Settles, Reads_part}

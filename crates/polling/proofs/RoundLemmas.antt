@@ -5,6 +5,7 @@ use Rattle.std.proofs.lemmas.List.{at_drop_more, at_drop_all}
 use Rattle.chain.specs.Ledgers.{LedgersMeaning, Tenants}
 use Rattle.ledger_http.specs.declared.reply.Reply.{Reply}
 use Rattle.ledger_http.specs.Question.{Question}
+use Rattle.ledger_http.specs.ReplyText.{reply_text}
 use Rattle.service.specs.declared.turns.Message.{Message}
 use Rattle.service.specs.Responds.{Responds}
 use Rattle.service.specs.Seen.{Whole, Within}
@@ -12,10 +13,10 @@ use Rattle.service.specs.Turns.{RespondsTo, RespondInTurn, TakeTurns}
 use Rattle.service.specs.Connections.{GoesOnAfter}
 use Rattle.clients.specs.Talk.{Talk}
 use Rattle.clients.specs.Within.{replied_to, Asks, after_asking, AnswersLeave, RepliesWithin}
-use Rattle.polling.specs.Peers.{Doing}
+use Rattle.polling.specs.Peers.{Doing, Handed}
 use Rattle.polling.specs.Serving.{rules}
 use Rattle.polling.specs.Seating.{SeatsNow, held, ServesEach}
-use Rattle.polling.specs.Round.{IsCopyOf, IsNoneOf, IsPutTo, AreCopied, moments_of, AreToBePut, ArePut}
+use Rattle.polling.specs.Round.{IsCopyOf, IsNoneOf, IsHandedTo, IsPutTo, AreCopied, moments_of, AreToBePut, ArePut}
 use Rattle.polling.specs.declared.round.Member.{Member}
 use Rattle.polling.proofs.OneLemmas.{replied}
 use Rattle.polling.proofs.AllLemmas.{then_each, none_served}
@@ -110,6 +111,25 @@ was_next member members message left reply seats seats_now copied put =
           (Some (replied_to member.size goes_on reply talk)) members left now copied.1 copied.2;
     }
 
+-- what was handed over was put
+pub put_by :
+    {P : Type 0} (does : P → Doing → P → Type 0) (member : Member) (reply : Reply)
+    (peers peers_now : P) (seats seats_now : ℕ → Option Talk) →
+    IsHandedTo does member reply peers seats peers_now seats_now → IsPutTo member reply seats seats_now
+put_by does member reply peers peers_now seats seats_now handed talk was =
+    let all = handed talk was in (all.0, all.1, all.2)
+
+-- and the whole reply was handed over
+pub whole_handed :
+    {P : Type 0} (does : P → Doing → P → Type 0) (member : Member) (members : List Member)
+    (message : Message) (left : List Message) (reply : Reply) (peers peers_now : P)
+    (seats seats_now : ℕ → Option Talk) → AreCopied seats (member ∷ members) (message ∷ left) →
+    IsHandedTo does member reply peers seats peers_now seats_now →
+    does peers (Handed member.number (reply_text reply)) peers_now
+whole_handed does member members message left reply peers peers_now seats seats_now copied handed =
+    let all = handed copied.0.0 copied.0.1 in
+    subst (λ (now : Talk). does peers (Handed member.number now.unsent) peers_now) all.1.2 all.3
+
 pub nothing_left : {X : Type 0} (xs : List X) (n : ℕ) → n ≡ length xs → n ≡ 0 → xs ≡ []
 nothing_left [] n is none = refl
 nothing_left (x ∷ xs) n is none = absurd (omega (arith, is, none))
@@ -145,29 +165,30 @@ turns_over last machines (message ∷ messages) [] over none = absurd none
 turns_over last machines (message ∷ messages) (reply ∷ replies) (inl over) responds = absurd (cc)
 turns_over last machines (message ∷ messages) (reply ∷ replies) (inr over) responds = absurd (cc)
 
--- the replies so far were put, and these are left
+-- the replies so far were put and handed over, and these are left
 pub record ArePutSoFar {S C P : Type 0} (t : LedgersMeaning S) (gives : C → ℕ → C → Type 0)
     (renews : Option ℕ → S → S → Type 0) (waits : List ℕ → Type 0) (does : P → Doing → P → Type 0) (messages : List Message)
-    (replies : List Reply) (seats : ℕ → Option Talk) (members : List Member)
-    (replies_left : List Reply) (seats_now : ℕ → Option Talk) (count : ℕ) : Type 0 where
-  pub left : List Message
-  pub copied : AreCopied seats_now members left
-  pub put :
-      (ledgers : S) (machines : Tenants) (moments last : C) (peers : P) (next : ℕ)
-      → t.follows ledgers ledgers
-      → AreToBePut t gives ledgers last machines moments messages replies
-      → (mid : Tenants)
-      × (now : C)
-      × ServesEach (rules t gives renews waits does)
-      (held (Within ledgers machines) moments peers seats next)
-      (held (Within ledgers mid) now peers seats_now next) count
-      × AreToBePut t gives ledgers last mid now left replies_left
+    (replies : List Reply) (peers : P) (seats : ℕ → Option Talk) (members : List Member)
+    (replies_left : List Reply) (peers_now : P) (seats_now : ℕ → Option Talk) (count : ℕ) : Type 0
+  where
+    pub left : List Message
+    pub copied : AreCopied seats_now members left
+    pub put :
+        (ledgers : S) (machines : Tenants) (moments last : C) (next : ℕ)
+        → t.follows ledgers ledgers
+        → AreToBePut t gives ledgers last machines moments messages replies
+        → (mid : Tenants)
+        × (now : C)
+        × ServesEach (rules t gives renews waits does)
+        (held (Within ledgers machines) moments peers seats next)
+        (held (Within ledgers mid) now peers_now seats_now next) count
+        × AreToBePut t gives ledgers last mid now left replies_left
 
 module _ {S C P : Type 0} (t : LedgersMeaning S) (gives : C → ℕ → C → Type 0)
     (renews : Option ℕ → S → S → Type 0) (waits : List ℕ → Type 0) (does : P → Doing → P → Type 0) where
   put_one_more :
       RepliesWithin t gives → (ledgers : S) (machines : Tenants) (moments moments_now : C)
-      (peers : P) (seats seats_now : ℕ → Option Talk) (next : ℕ) (member : Member)
+      (peers peers_now : P) (seats seats_now : ℕ → Option Talk) (next : ℕ) (member : Member)
       (message : Message) (goes_on : Bool) (reply : Reply) (talk : Talk)
       (copy : IsCopyOf talk member.size message.bytes.items) → seats member.number ≡ Some talk →
       GoesOnAfter (take member.size talk.unread.bytes) goes_on →
@@ -175,18 +196,19 @@ module _ {S C P : Type 0} (t : LedgersMeaning S) (gives : C → ℕ → C → Ty
       t.follows ledgers ledgers → gives moments message.moment moments_now →
       (t.is_live ledgers →
       RespondsTo machines message reply (after_asking copy.question message.moment machines)) →
+      does peers (Handed member.number (reply_text reply)) peers_now →
       ServesEach (rules t gives renews waits does)
       (held (Within ledgers machines) moments peers seats next)
-      (held (Within ledgers (after_asking copy.question message.moment machines)) moments_now peers
-      seats_now next) 1
-  put_one_more within ledgers machines moments moments_now peers seats seats_now next member message
-      goes_on reply talk copy was going now follows given responds =
+      (held (Within ledgers (after_asking copy.question message.moment machines)) moments_now
+      peers_now seats_now next) 1
+  put_one_more within ledgers machines moments moments_now peers peers_now seats seats_now next member
+      message goes_on reply talk copy was going now follows given responds handed =
       let r = rules t gives renews waits does in
       let before = Within ledgers machines in
       let behind = Within ledgers (after_asking copy.question message.moment machines) in
       let talk_now = replied_to member.size goes_on reply talk in
-      served_at r member.number before behind moments moments_now peers peers seats seats_now next
-      talk talk_now false 1 was now
+      served_at r member.number before behind moments moments_now peers peers_now seats seats_now
+      next talk talk_now false 1 was now
       (replied copy.ready.may
       (within ledgers machines moments moments_now talk member.size copy.question message.moment
       goes_on reply copy.ready going given follows
@@ -196,32 +218,34 @@ module _ {S C P : Type 0} (t : LedgersMeaning S) (gives : C → ℕ → C → Ty
       Responds machines (after_asking copy.question message.moment machines) bytes message.moment
       reply)
       copy.copied (responds live)))
-      (λ live found may. may.1))
+      (λ live found may. may.1) handed)
 
   -- one more is put
   put_more_of :
       AnswersLeave → RepliesWithin t gives → (messages : List Message) (replies : List Reply)
-      (seats : ℕ → Option Talk) (member : Member) (members : List Member) (reply : Reply)
-      (replies_left : List Reply) (seats_now seats_then : ℕ → Option Talk) (count : ℕ)
-      (left : List Message) →
+      (peers : P) (seats : ℕ → Option Talk) (member : Member) (members : List Member) (reply : Reply)
+      (replies_left : List Reply) (peers_now peers_then : P)
+      (seats_now seats_then : ℕ → Option Talk) (count : ℕ) (left : List Message) →
       (so_far :
-      ArePutSoFar t gives renews waits does messages replies seats (member ∷ members)
-      (reply ∷ replies_left) seats_now count) →
+      ArePutSoFar t gives renews waits does messages replies peers seats (member ∷ members)
+      (reply ∷ replies_left) peers_now seats_now count) →
       so_far.left ≡ left → AreCopied seats_now (member ∷ members) left →
-      IsPutTo member reply seats_now seats_then →
-      ArePutSoFar t gives renews waits does messages replies seats members replies_left seats_then
-      (count + 1)
-  put_more_of leave within messages replies seats member members reply replies_left seats_now
-      seats_then count [] so_far is copied now =
+      IsHandedTo does member reply peers_now seats_now peers_then seats_then →
+      ArePutSoFar t gives renews waits does messages replies peers seats members replies_left
+      peers_then seats_then (count + 1)
+  put_more_of leave within messages replies peers seats member members reply replies_left peers_now
+      peers_then seats_now seats_then count [] so_far is copied now =
       absurd copied
-  put_more_of leave within messages replies seats member members reply replies_left seats_now
-      seats_then count (message ∷ left) so_far is copied now =
-      let one = was_next member members message left reply seats_now seats_then copied now in
+  put_more_of leave within messages replies peers seats member members reply replies_left peers_now
+      peers_then seats_now seats_then count (message ∷ left) so_far is copied now =
+      let one =
+      was_next member members message left reply seats_now seats_then copied
+      (put_by does member reply peers_now peers_then seats_now seats_then now) in
       record {
         left = left;
         copied = one.copied;
-        put = λ ledgers machines moments last peers next follows all.
-            let so = so_far.put ledgers machines moments last peers next follows all in
+        put = λ ledgers machines moments last next follows all.
+            let so = so_far.put ledgers machines moments last next follows all in
             let mid = so.0 in
             let rest =
             subst
@@ -233,15 +257,17 @@ module _ {S C P : Type 0} (t : LedgersMeaning S) (gives : C → ℕ → C → Ty
               rest.given.0,
               then_each (rules t gives renews waits does)
                   (held (Within ledgers machines) moments peers seats next)
-                  (held (Within ledgers mid) so.1 peers seats_now next)
-                  (held (Within ledgers behind) rest.given.0 peers seats_then next) count 1
+                  (held (Within ledgers mid) so.1 peers_now seats_now next)
+                  (held (Within ledgers behind) rest.given.0 peers_then seats_then next) count 1
                   (count + 1) refl so.2
-                  (put_one_more within ledgers mid so.1 rest.given.0 peers seats_now seats_then
-                  next member message one.goes_on reply one.talk one.copy one.was one.going one.now
-                  follows rest.given.1
+                  (put_one_more within ledgers mid so.1 rest.given.0 peers_now peers_then seats_now
+                  seats_then next member message one.goes_on reply one.talk one.copy one.was
+                  one.going one.now follows rest.given.1
                   (λ live.
                   (turns_leave leave (t.tenants ledgers) mid message left reply replies_left
-                  one.copy.question one.asks (rest.turns live)).0)),
+                  one.copy.question one.asks (rest.turns live)).0)
+                  (whole_handed does member members message left reply peers_now peers_then seats_now
+                  seats_then copied now)),
               record {
                 given = rest.given.2;
                 turns = λ live.
@@ -253,37 +279,41 @@ module _ {S C P : Type 0} (t : LedgersMeaning S) (gives : C → ℕ → C → Ty
 
   pub put_more :
       AnswersLeave → RepliesWithin t gives → (messages : List Message) (replies : List Reply)
-      (seats : ℕ → Option Talk) (before : List Member) (member : Member) (members : List Member)
-      (replies_before : List Reply) (reply : Reply) (replies_left : List Reply)
+      (peers : P) (seats : ℕ → Option Talk) (before : List Member) (member : Member)
+      (members : List Member) (replies_before : List Reply) (reply : Reply)
+      (replies_left : List Reply) (peers_now peers_then : P)
       (seats_now seats_then : ℕ → Option Talk) (count : ℕ) →
       before ≡ member ∷ members → replies_before ≡ reply ∷ replies_left →
-      ArePutSoFar t gives renews waits does messages replies seats before replies_before seats_now count →
-      IsPutTo member reply seats_now seats_then →
-      ArePutSoFar t gives renews waits does messages replies seats members replies_left seats_then
-      (count + 1)
-  put_more leave within messages replies seats before member members replies_before reply replies_left
-      seats_now seats_then count here next so_far now =
+      ArePutSoFar t gives renews waits does messages replies peers seats before replies_before
+      peers_now seats_now count →
+      IsHandedTo does member reply peers_now seats_now peers_then seats_then →
+      ArePutSoFar t gives renews waits does messages replies peers seats members replies_left
+      peers_then seats_then (count + 1)
+  put_more leave within messages replies peers seats before member members replies_before reply
+      replies_left peers_now peers_then seats_now seats_then count here next so_far now =
       let so =
       subst
       (λ (ms : List Member).
-      ArePutSoFar t gives renews waits does messages replies seats ms (reply ∷ replies_left) seats_now count)
+      ArePutSoFar t gives renews waits does messages replies peers seats ms (reply ∷ replies_left)
+      peers_now seats_now count)
       here
       (subst
       (λ (rs : List Reply).
-      ArePutSoFar t gives renews waits does messages replies seats before rs seats_now count)
+      ArePutSoFar t gives renews waits does messages replies peers seats before rs peers_now seats_now
+      count)
       next so_far) in
-      put_more_of leave within messages replies seats member members reply replies_left seats_now
-      seats_then count so.left so refl so.copied now
+      put_more_of leave within messages replies peers seats member members reply replies_left peers_now
+      peers_then seats_now seats_then count so.left so refl so.copied now
 
   -- none is put yet
   pub put_none :
-      (messages : List Message) (replies : List Reply) (seats : ℕ → Option Talk)
+      (messages : List Message) (replies : List Reply) (peers : P) (seats : ℕ → Option Talk)
       (members : List Member) → AreCopied seats members messages →
-      ArePutSoFar t gives renews waits does messages replies seats members replies seats 0
-  put_none messages replies seats members copied = record {
+      ArePutSoFar t gives renews waits does messages replies peers seats members replies peers seats 0
+  put_none messages replies peers seats members copied = record {
     left = messages;
     copied = copied;
-    put = λ ledgers machines moments last peers next follows all. (
+    put = λ ledgers machines moments last next follows all. (
       machines,
       moments,
       none_served,
@@ -293,20 +323,22 @@ module _ {S C P : Type 0} (t : LedgersMeaning S) (gives : C → ℕ → C → Ty
 
   -- all are put
   pub put_over :
-      (messages : List Message) (replies : List Reply) (seats : ℕ → Option Talk)
-      (members : List Member) (replies_left : List Reply) (seats_now : ℕ → Option Talk) (count : ℕ)
+      (messages : List Message) (replies : List Reply) (peers : P) (seats : ℕ → Option Talk)
+      (members : List Member) (replies_left : List Reply) (peers_now : P)
+      (seats_now : ℕ → Option Talk) (count : ℕ)
       (so_far :
-      ArePutSoFar t gives renews waits does messages replies seats members replies_left seats_now count) →
+      ArePutSoFar t gives renews waits does messages replies peers seats members replies_left peers_now
+      seats_now count) →
       (so_far.left ≡ []) ⊎ (replies_left ≡ []) →
-      ArePut t gives renews waits does messages replies seats seats_now count
-  put_over messages replies seats members replies_left seats_now count so_far over ledgers machines
-      moments last peers next follows again all =
-      let so = so_far.put ledgers machines moments last peers next follows all in
+      ArePut t gives renews waits does messages replies peers seats peers_now seats_now count
+  put_over messages replies peers seats members replies_left peers_now seats_now count so_far over
+      ledgers machines moments last next follows again all =
+      let so = so_far.put ledgers machines moments last next follows all in
       then_each (rules t gives renews waits does) (held (Within ledgers machines) moments peers seats next)
-      (held (Within ledgers so.0) so.1 peers seats_now next)
-      (held (Whole ledgers) last peers seats_now next) count 0 count (omega arith) so.2
+      (held (Within ledgers so.0) so.1 peers_now seats_now next)
+      (held (Whole ledgers) last peers_now seats_now next) count 0 count (omega arith) so.2
       (rests_all (rules t gives renews waits does) (Within ledgers so.0) (Whole ledgers) so.1 last
-      (moments_of so_far.left) peers seats_now next
+      (moments_of so_far.left) peers_now seats_now next
       (record {
         lived = λ live. live;
         same = λ live digest.

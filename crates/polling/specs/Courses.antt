@@ -25,7 +25,7 @@ pub record IsAtRest {S : Type 0} (t : RunMeaning S) (old new : S) : Type 0 where
   pub same : t.is_live new → KeepsAll (t.tenants old) (t.tenants new)
   pub found :
       (found : Tenants) → t.may_find new found
-      → t.may_find old found ⊎ (t.is_live new × KeepsAll (t.tenants new) found)
+      → ∥ t.may_find old found ⊎ (t.is_live new × KeepsAll (t.tenants new) found) ∥₁
 
 -- What a supervisor makes of ledgers, given this moment if it asked for one. They stay as they are.
 -- They are opened again, and are what was to be found. They are opened anew, whatever was before. That

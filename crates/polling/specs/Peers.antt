@@ -2,19 +2,22 @@
 use Rattle.std.specs.Prelude.{◌≡◌, ◌≤◌, ℕ, List, length, take}
 use Rattle.clients.specs.Deeds.{Act, Came, Replied, Continued, Wrote}
 use Rattle.clients.specs.Deeds as deed
+use Rattle.clients.specs.Talk.{Talk}
 use Rattle.polling.specs.declared.peers.Told.{Told}
 use Rattle.polling.specs.declared.peers.Read.{Read}
 use Rattle.polling.specs.declared.peers.Read.TheVariants as read
 use Rattle.polling.specs.declared.peers.Written.{Written}
 use Rattle.polling.specs.declared.peers.Written.TheVariants as written
 
--- bytes of a client were read, or there were none for now; its input ended; bytes to it were
--- taken, or none for now; its connection was told as broken; it is to be told as ready again; it
--- was closed; waiting told this, where a number was handed in for who is new; or anything else
+-- Bytes of a client were read, or there were none for now. Its input ended. The reply to its message
+-- was handed over, so that it can be marked. Bytes to it were taken, or none for now. Its connection
+-- broke. It is to have another turn. It was closed. Waiting has reported this, where a number was
+-- handed in for a new client. Or anything else.
 pub data Doing : Type 0 where
   Gave : ℕ → List ℕ → Doing
   Gave_none : ℕ → Doing
   Ended : ℕ → Doing
+  Handed : ℕ → List ℕ → Doing
   Took : ℕ → List ℕ → Doing
   Took_none : ℕ → Doing
   Broke : ℕ → Doing
@@ -23,13 +26,14 @@ pub data Doing : Type 0 where
   Said : ℕ → Told → Doing
   Stirred : Doing
 
--- what peers did of a deed
-abbrev pub Hands : {P : Type 0} → (P → Doing → P → Type 0) → Act → P → P → Type 0
-Hands does (Came client piece) old new = does old (Gave client piece) new
-Hands does (deed.Ended client) old new = does old (Ended client) new
-Hands does (Replied client reply) old new = new ≡ old
-Hands does (Continued client part) old new = new ≡ old
-Hands does (Wrote client bytes) old new = does old (Took client bytes) new
+-- What peers did of a deed, behind which a client's talk is this. A reply is handed over in the deed
+-- that answers it, with all that is to be written of it now.
+abbrev pub Hands : {P : Type 0} → (P → Doing → P → Type 0) → Act → Talk → P → P → Type 0
+Hands does (Came client piece) talk old new = does old (Gave client piece) new
+Hands does (deed.Ended client) talk old new = does old (Ended client) new
+Hands does (Replied client reply) talk old new = does old (Handed client talk.unsent) new
+Hands does (Continued client part) talk old new = new ≡ old
+Hands does (Wrote client bytes) talk old new = does old (Took client bytes) new
 
 -- what reading from a client gave
 abbrev pub HasReadFrom :

@@ -9,7 +9,7 @@ use Rattle.service.specs.Seen.{Whole, Within}
 use Rattle.service.specs.Turns.{TakeTurns}
 use Rattle.clients.specs.Talk.{Talk}
 use Rattle.clients.specs.Within.{IsNextReady, IsRepliedTo}
-use Rattle.polling.specs.Peers.{Doing}
+use Rattle.polling.specs.Peers.{Doing, Handed}
 use Rattle.polling.specs.Serving.{rules, AreGiven, FailedAs, IsFoundAgain}
 use Rattle.polling.specs.Seating.{SeatsNow, held, ServesEach}
 use Rattle.polling.specs.declared.round.Member.{Member}
@@ -51,6 +51,18 @@ IsPutTo member reply seats seats_now =
     × IsRepliedTo member.size reply talk talk_now
     × SeatsNow member.number (Some talk_now) seats seats_now
 
+-- so too, and peers were handed that reply
+abbrev pub IsHandedTo :
+    {P : Type 0} → (P → Doing → P → Type 0) → Member → Reply → P → (ℕ → Option Talk) → P
+    → (ℕ → Option Talk) → Type 0
+IsHandedTo does member reply peers seats peers_now seats_now =
+    (talk : Talk)
+    → seats member.number ≡ Some talk
+    → (talk_now : Talk)
+    × IsRepliedTo member.size reply talk talk_now
+    × SeatsNow member.number (Some talk_now) seats seats_now
+    × does peers (Handed member.number talk_now.unsent) peers_now
+
 -- copies, and the moments that were given for them
 pub record AreGathered {C : Type 0} (gives : C → ℕ → C → Type 0)
     (seats : ℕ → Option Talk) (first : C)
@@ -67,19 +79,20 @@ pub record AreToBePut {S C : Type 0} (t : LedgersMeaning S)
   pub given : AreGiven gives moments (moments_of messages) last
   pub turns : t.is_live ledgers → TakeTurns messages machines replies (t.tenants ledgers)
 
--- the replies of a round that was kept are put to its clients
+-- the replies of a round that was kept are put to its clients, and each is handed to peers
 abbrev pub ArePut :
     {S C P : Type 0} → LedgersMeaning S → (C → ℕ → C → Type 0) → (Option ℕ → S → S → Type 0)
-    → (List ℕ → Type 0) → (P → Doing → P → Type 0) → List Message → List Reply
-    → (ℕ → Option Talk) → (ℕ → Option Talk) → ℕ → Type 0
-ArePut {S} {C} {P} t gives renews waits does messages replies seats seats_now count =
-    (ledgers : S) (machines : Tenants) (moments last : C) (peers : P) (next : ℕ)
+    → (List ℕ → Type 0) → (P → Doing → P → Type 0) → List Message → List Reply → P
+    → (ℕ → Option Talk) → P → (ℕ → Option Talk) → ℕ → Type 0
+ArePut {S} {C} {P} t gives renews waits does messages replies peers seats peers_now seats_now
+    count =
+    (ledgers : S) (machines : Tenants) (moments last : C) (next : ℕ)
     → t.follows ledgers ledgers
     → IsFoundAgain t ledgers
     → AreToBePut t gives ledgers last machines moments messages replies
     → ServesEach (rules t gives renews waits does)
     (held (Within ledgers machines) moments peers seats next)
-    (held (Whole ledgers) last peers seats_now next) count
+    (held (Whole ledgers) last peers_now seats_now next) count
 
 -- the disk failed with a round of these messages
 abbrev pub IsLost : {S : Type 0} → LedgersMeaning S → S → List Message → S → Type 0

@@ -186,7 +186,8 @@ pub data Occurs (S C P : Type 0) (r : Terms S C P) (old : Hall S C P) :
   Did :
       (deed : Act) (room : Room S C) (peers : P) →
       IsInTurn old deed → IsActed r.means r.gives old.room deed room →
-      Settles r.means deed room.ledgers → Hands r.does deed old.peers peers →
+      Settles r.means deed room.ledgers →
+      Hands r.does deed (room.talks (client_of deed)) old.peers peers →
       Occurs S C P r old (deed ∷ [])
       (record old { room = room; peers = peers; stands = stands_after (deed ∷ []) old.stands })
   Tells :

@@ -94,7 +94,7 @@ fn finish_each<L: Rounds, H: Steward<L>, C: Moments, P: Peers>(
 /// so, the next clients are served alone.
 fn share<L: Rounds, H: Steward<L>, C: Moments, P: Peers>(
     alloc: Global,
-    peers: &P,
+    peers: &mut P,
     clients: &mut BTreeMap<u64, Client>,
     numbers: &[u64],
     ledgers: &mut L,
@@ -103,10 +103,10 @@ fn share<L: Rounds, H: Steward<L>, C: Moments, P: Peers>(
     most: u64,
 ) -> u64
     ensures replies { RepliesUpTo most result
-        ((peers : P) → (next : ℕ) →
+        ((next : ℕ) →
         ServesEach (rules L.means C.gives H.renews H.waits P.does)
-        (held (Whole ledgers.old) moments.old peers (seats_in clients.old) next)
-        (held (Whole ledgers.new) moments.new peers (seats_in clients.new) next) result) }
+        (held (Whole ledgers.old) moments.old peers.old (seats_in clients.old) next)
+        (held (Whole ledgers.new) moments.new peers.new (seats_in clients.new) next) result) }
     ensures same { gathered.new.ring ≡ gathered.old.ring }
 {
     if numbers.len() < 2 {

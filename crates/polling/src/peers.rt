@@ -1,7 +1,8 @@
 //! Those who are connected, and what they do.
 ghost use Rattle.std.specs.Prelude.{◌≡◌, ◌≤◌, length};
 ghost use Rattle.ledger_http.specs.Limits.{longest_message};
-ghost use Rattle.polling.specs.Peers.{Doing, Asked, Closed, Said, Stirred, HasReadFrom, HasWritten};
+ghost use Rattle.polling.specs.Peers.{Doing, Asked, Closed, Handed, Said, Stirred};
+ghost use Rattle.polling.specs.Peers.{HasReadFrom, HasWritten};
 
 use crate::Batch;
 
@@ -64,8 +65,11 @@ pub trait Peers {
     /// So many messages were answered in one round.
     fn shared(&self, _messages: u64) {}
 
-    /// A message that is such a batch was answered by this reply.
-    fn answered(&self, _batch: Batch, _reply: &[u8]) {}
+    /// Hands over the reply to a client's message once the ledgers keep what it tells, and before
+    /// any of it is written. So its clock can be marked first. If the reply is a statement, this is
+    /// its first part. `batch` says which batch the message is, if it is one.
+    fn answered(&mut self, client: u64, batch: Option<Batch>, reply: &[u8])
+        ensures { does self.old (Handed client reply.now) self.new };
 
     /// A client wants to be read, whose next message has so many bytes, head and body together; 0
     /// where its head has not come. Told before each reading, and what is told later holds.

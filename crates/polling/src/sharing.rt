@@ -7,8 +7,7 @@ ghost use Rattle.polling.specs.Steps.{RepliesUpTo};
 
 use crate::putting::{put_all, tell_all};
 use crate::round::{Round, copy_all};
-use crate::turn::tell_answered;
-use crate::{Batch, Peers, Steward};
+use crate::{Peers, Steward};
 use chain::Rounds;
 use clients::Client;
 use records::Unavailable;
@@ -16,21 +15,13 @@ use service::{Moments, Turns};
 use std::alloc::Global;
 use std::collections::BTreeMap;
 
-/// Tells those who are connected by which replies the batches of a round were answered.
-fn tell_all_answered<P: Peers>(peers: &P, clients: &BTreeMap<u64, Client>, round: &Round) {
-    for (member, message) in round.members.iter().zip(round.messages.iter()) {
-        if let Some(client) = clients.get(&member.number) {
-            tell_answered(peers, Batch::of(message.bytes.as_slice()), client.unsent());
-        }
-    }
-}
-
 /// Answers the next messages of clients in one round, of so many at most, and says how many are
 /// answered. There are none where the round is refused for want of memory or size, or would be of
-/// one message alone. Where the disk fails with it, each is told that the ledgers are unavailable.
+/// one message alone. After the commit of all of them each reply is handed to the connections. Where
+/// the disk fails with it, each client's reply is that the ledgers are unavailable.
 pub(crate) fn share_round<L: Rounds, H: Steward<L>, C: Moments, P: Peers>(
     alloc: Global,
-    peers: &P,
+    peers: &mut P,
     clients: &mut BTreeMap<u64, Client>,
     numbers: &[u64],
     ledgers: &mut L,
@@ -38,10 +29,10 @@ pub(crate) fn share_round<L: Rounds, H: Steward<L>, C: Moments, P: Peers>(
     most: u64,
 ) -> u64
     ensures { RepliesUpTo most result
-        ((peers : P) → (next : ℕ) →
+        ((next : ℕ) →
         ServesEach (rules L.means C.gives H.renews H.waits P.does)
-        (held (Whole ledgers.old) moments.old peers (seats_in clients.old) next)
-        (held (Whole ledgers.new) moments.new peers (seats_in clients.new) next) result) }
+        (held (Whole ledgers.old) moments.old peers.old (seats_in clients.old) next)
+        (held (Whole ledgers.new) moments.new peers.new (seats_in clients.new) next) result) }
 {
     let round = copy_all(alloc, clients, numbers, moments, most);
     if round.members.len() < 2 {
@@ -51,11 +42,7 @@ pub(crate) fn share_round<L: Rounds, H: Steward<L>, C: Moments, P: Peers>(
     let replies = ledgers.in_round(Turns { alloc, messages });
     H::is_settled(ledgers);
     match replies {
-        Ok(replies) => {
-            let count = put_all::<L, H, C, P>(clients, &round, replies);
-            tell_all_answered(peers, clients, &round);
-            count
-        }
+        Ok(replies) => put_all::<L, H, C, P>(peers, clients, &round, replies),
         Err(why) => match why {
             Unavailable::Disk => tell_all::<L, H, C, P>(clients, &round),
             Unavailable::Memory | Unavailable::Size => 0,

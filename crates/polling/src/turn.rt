@@ -137,6 +137,7 @@ fn read_or_give_up<L: Ledgers, H: Steward<L>, C: Moments, P: Peers>(
             whole_ledgers_are_seen::<L, C>();
             H::is_settled(ledgers);
             client.give_up();
+            peers.answered(number, None, client.unsent());
             Turned {
                 step: write_all::<L, H, C, P>(peers, number, client),
                 replied: true,
@@ -145,15 +146,8 @@ fn read_or_give_up<L: Ledgers, H: Steward<L>, C: Moments, P: Peers>(
     }
 }
 
-/// Tells those who are connected by which reply a message was answered, if it was a batch.
-pub(crate) fn tell_answered<P: Peers>(peers: &P, batch: Option<Batch>, reply: &[u8]) {
-    if let Some(batch) = batch {
-        peers.answered(batch, reply);
-    }
-}
-
-/// Answers the next message of a client, or reads more of it where that has not come. Which batch
-/// it is, if it is one, is told with the reply.
+/// Answers the next message of a client, or reads more of it where that has not come. The reply is
+/// handed to those who are connected before any of it is written.
 pub(crate) fn answer_or_read<L: Ledgers, H: Steward<L>, C: Moments, P: Peers>(
     alloc: Global,
     peers: &mut P,
@@ -174,7 +168,7 @@ pub(crate) fn answer_or_read<L: Ledgers, H: Steward<L>, C: Moments, P: Peers>(
         Answered::Replied => {
             whole_ledgers_are_seen::<L, C>();
             H::is_settled(ledgers);
-            tell_answered(peers, batch, client.unsent());
+            peers.answered(number, batch, client.unsent());
             Turned {
                 step: write_all::<L, H, C, P>(peers, number, client),
                 replied: true,

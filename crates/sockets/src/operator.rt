@@ -31,6 +31,10 @@ pub trait Operator {
     /// A reply is to be written to a client, whose first bytes are these.
     fn replies(&self, _reply: &[u8]) {}
 
+    /// A message was answered by this reply, of which nothing is written yet: so its clock can be
+    /// marked first. If the reply is a statement, this is its first part.
+    fn mark(&self, _reply: &[u8]) {}
+
     /// A batch was answered by this reply.
     fn answered(&self, _batch: Batch, _reply: &[u8]) {}
 

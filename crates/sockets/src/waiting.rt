@@ -292,8 +292,11 @@ impl<K: Clock, O: Operator> Peers for Sockets<'_, K, O> {
         self.operator.shared(messages);
     }
 
-    fn answered(&self, batch: Batch, reply: &[u8]) {
-        self.operator.answered(batch, reply);
+    fn answered(&mut self, _client: u64, batch: Option<Batch>, reply: &[u8]) {
+        self.operator.mark(reply);
+        if let Some(batch) = batch {
+            self.operator.answered(batch, reply);
+        }
     }
 
     fn wants(&mut self, client: u64, bytes: u64) {

@@ -2,7 +2,7 @@
 
 ghost use Rattle.std.specs.Prelude.{⊤};
 
-use polling::{Peers, Read, Told, Written};
+use polling::{Batch, Peers, Read, Told, Written};
 use std::alloc::{AllocError, Global};
 use std::cell::Cell;
 use std::io;
@@ -135,6 +135,8 @@ impl Peers for Scripted<'_> {
     fn has_more(&self) -> bool {
         false
     }
+
+    fn answered(&mut self, _client: u64, _batch: Option<Batch>, _reply: &[u8]) {}
 
     fn wants(&mut self, _client: u64, _bytes: u64) {}
 

@@ -27,7 +27,7 @@ returns-in-Ok-clause-served c = record {
       let served = c.in-Ok.ensures.served in
       subst
       (HasLed kept_store
-      (IsSince (renewal_seen (λ files tenants. Unit {0}))
+      (IsSince (renewal_seen (λ files told. Unit {0}))
       (empty_hall (Whole (kept_of c.in_ok-store.store)) c.new-moments.result c.in_ok-listening.listening)
       served.serves.served.deeds served.serves.served.last served.serves.served.served)) served.kept
       (served.serves.course

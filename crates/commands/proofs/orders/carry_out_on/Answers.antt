@@ -1,5 +1,6 @@
 use Rattle.std.proofs.Common.{◌∙◌, Ok, Err, ap, refl}
 use Rattle.std.proofs.lemmas.Result.{err_from_is_err_and}
+use Rattle.command_texts.specs.declared.fault.Fault.TheVariants.{Unavailable}
 use Rattle.commands.specs.declared.orders.Done.TheVariants.{Listed}
 use Rattle.commands.proofs.OrderLemmas.{carried_as, rest_so}
 use Rattle.commands.proofs.orders.carry_out_on.Goals as goal
@@ -8,6 +9,14 @@ pub returns-in-Ok : goal.returns-in-Ok
 returns-in-Ok g c =
     carried_as _ _ _ _ _ (Ok (Listed c.in-Ok.tenants)) c.in-Tenants.is refl (
       rw (← c.store.view_is) c.in-Ok.ensures.value,
+      rw (← c.store.view_is) (rest_so c.store.inside.backend c.tenants-listed.new.self c.tenants-listed.result c.store.invariant
+          c.tenants-listed.ensures.reads),
+    )
+
+pub returns-in-Err : goal.returns-in-Err
+returns-in-Err g c =
+    carried_as _ _ _ _ _ (Err Unavailable) c.in-Tenants.is refl (
+      (λ live. refl),
       rw (← c.store.view_is) (rest_so c.store.inside.backend c.tenants-listed.new.self c.tenants-listed.result c.store.invariant
           c.tenants-listed.ensures.reads),
     )

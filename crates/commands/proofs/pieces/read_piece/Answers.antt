@@ -28,3 +28,8 @@ pub returns-in-Ok-None-clause-read : goal.returns-in-Ok-None-clause-read
 returns-in-Ok-None-clause-read g c =
     rw (← c.store.view_is)
     (inl (rest_so c.store.inside.backend c.digest_of-found.new.self c.digest_of-found.result c.store.invariant c.digest_of-found.ensures.reads))
+
+pub returns-in-Err-clause-read : goal.returns-in-Err-clause-read
+returns-in-Err-clause-read g c =
+    rw (← c.store.view_is)
+    (inl (rest_so c.store.inside.backend c.digest_of-found.new.self c.digest_of-found.result c.store.invariant c.digest_of-found.ensures.reads))

@@ -1,4 +1,4 @@
-use Rattle.std.proofs.Common.{Ok}
+use Rattle.std.proofs.Common.{Ok, refl}
 use Rattle.commands.proofs.RenewLemmas.{opened_so}
 use Rattle.commands.proofs.renewing.reopened.Goals as goal
 
@@ -11,6 +11,7 @@ returns-in-Ok-clause-opened g c =
 pub returns-in-Err-clause-refused : goal.returns-in-Err-clause-refused
 returns-in-Err-clause-refused g c = rw (← c.store.view_is) (record {
   refused = c.in-Err.refused;
+  why = refl;
   leaves = c.in-Err.ensures.left;
   silent = c.in-Err.ensures.refused;
   shut = c.in-Err.ensures.shut;

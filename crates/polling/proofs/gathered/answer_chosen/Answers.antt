@@ -21,7 +21,7 @@ returns-clause-replies g c =
           (λ (is : one.result ≡ most). omega (arith, is, few_one, few_two, few_three))))
           (then_owed
           (beside batches
-          (owed_for (two.ensures.replies.serves one.new.peers one.new.seats.next)
+          (owed_for (two.ensures.replies.serves one.new.seats.next)
           (λ never. absurd never)))
           (owed_for (turns_were c.as_slice-batches.ensures.value three.ensures.serves)
           (λ (is : three.result ≡ most - one.result - two.result).

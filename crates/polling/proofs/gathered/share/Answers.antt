@@ -4,4 +4,4 @@ use Rattle.polling.proofs.gathered.share.Goals as goal
 
 pub returns-then-numbers-lt2-clause-replies : goal.returns-then-numbers-lt2-clause-replies
 returns-then-numbers-lt2-clause-replies g c =
-    record { serves = λ peers next. none_served; few = omega arith }
+    record { serves = λ next. none_served; few = omega arith }

@@ -13,12 +13,13 @@ loop-member-init g c = record {
       subst
       (λ (replies : List Reply).
       ArePutSoFar g.L.Ledgers.means g.C.Moments.gives g.H.Steward.renews g.H.Steward.waits g.P.Peers.does
-      c.args.round.now.messages.items c.args.replies.items (seats_in c.args.clients.now)
-      c.args.round.now.members.items replies (seats_in c.args.clients.now) 0)
+      c.args.round.now.messages.items c.args.replies.items c.args.peers.now
+      (seats_in c.args.clients.now) c.args.round.now.members.items replies c.args.peers.now
+      (seats_in c.args.clients.now) 0)
       (sym c.into_iter-rest.ensures.rest)
       (put_none g.L.Ledgers.means g.C.Moments.gives g.H.Steward.renews g.H.Steward.waits g.P.Peers.does
-      c.args.round.now.messages.items c.args.replies.items (seats_in c.args.clients.now)
-      c.args.round.now.members.items c.requires);
+      c.args.round.now.messages.items c.args.replies.items c.args.peers.now
+      (seats_in c.args.clients.now) c.args.round.now.members.items c.requires);
   count = refl;
   len = search rules;
 }
@@ -26,7 +27,7 @@ loop-member-init g c = record {
 pub returns-in_default : goal.returns-in_default
 returns-in_default g c = record {
   put =
-      put_over g.L.Ledgers.means g.C.Moments.gives g.H.Steward.renews g.H.Steward.waits g.P.Peers.does _ _ _ _ _ _ _
+      put_over g.L.Ledgers.means g.C.Moments.gives g.H.Steward.renews g.H.Steward.waits g.P.Peers.does _ _ _ _ _ _ _ _ _
       c.loop-member.invariant.put
       (inr (nothing_left _ _ c.loop-member.invariant.len c.in_default.ensures.cases.0));
   few =
@@ -36,8 +37,8 @@ returns-in_default g c = record {
       omega (arith, is, within, same);
 }
 
-pub put_one-requires : goal.put_one-requires
-put_one-requires g c =
+pub hand_one-requires : goal.hand_one-requires
+hand_one-requires g c =
     fits_here _ _ _ _ _
     (member_here _ _ _ _ c.deref-member-items.ensures.value c.loop-member-test.true)
     c.loop-member.invariant.put.copied
@@ -53,9 +54,9 @@ pub loop-member-preserved : goal.loop-member-preserved
 loop-member-preserved g c = record {
   put =
       put_more g.L.Ledgers.means g.C.Moments.gives g.H.Steward.renews g.H.Steward.waits g.P.Peers.does
-      c.rounds_reply.ensures.leave c.rounds_reply.ensures.reply _ _ _ _ _ _ _ _ _ _ _ _
+      c.rounds_reply.ensures.leave c.rounds_reply.ensures.reply _ _ _ _ _ _ _ _ _ _ _ _ _ _ _
       (member_here _ _ _ _ c.deref-member-items.ensures.value c.loop-member-test.true)
-      c.in-Some.ensures.cases.0 c.loop-member.invariant.put c.put_one.ensures;
+      c.in-Some.ensures.cases.0 c.loop-member.invariant.put c.hand_one.ensures;
   count = ap (λ (n : ℕ). n + 1) c.loop-member.invariant.count;
   len =
       let was = c.loop-member.invariant.len in
@@ -67,7 +68,7 @@ loop-member-preserved g c = record {
 pub returns : goal.returns
 returns g c = record {
   put =
-      put_over g.L.Ledgers.means g.C.Moments.gives g.H.Steward.renews g.H.Steward.waits g.P.Peers.does _ _ _ _ _ _ _
+      put_over g.L.Ledgers.means g.C.Moments.gives g.H.Steward.renews g.H.Steward.waits g.P.Peers.does _ _ _ _ _ _ _ _ _
       c.loop-member.invariant.put
       (inl
       (none_left (seats_in c.loop-member.clients) _

@@ -9,8 +9,8 @@ use Rattle.polling.proofs.sharing.share_round.Goals as goal
 pub returns-then-len-lt2 : goal.returns-then-len-lt2
 returns-then-len-lt2 g c = record {
   serves =
-      λ peers next. only_copied g.L.Ledgers.means g.C.Moments.gives g.H.Steward.renews g.H.Steward.waits g.P.Peers.does
-      c.args.ledgers.now c.args.moments.now c.copy_all-round.new.moments peers
+      λ next. only_copied g.L.Ledgers.means g.C.Moments.gives g.H.Steward.renews g.H.Steward.waits g.P.Peers.does
+      c.args.ledgers.now c.args.moments.now c.copy_all-round.new.moments c.args.peers.now
       (seats_in c.args.clients.now) (seats_in c.copy_all-round.new.clients) next
       c.copy_all-round.result.messages.items c.copy_all-round.ensures.same
       c.copy_all-round.ensures.gathered.given;
@@ -18,19 +18,19 @@ returns-then-len-lt2 g c = record {
       omega arith;
 }
 
-pub put_all-count-requires : goal.put_all-count-requires
-put_all-count-requires g c =
+pub put_all-requires : goal.put_all-requires
+put_all-requires g c =
     copied_as_before (seats_in c.args.clients.now) (seats_in c.copy_all-round.new.clients) _ _
     c.copy_all-round.ensures.same c.copy_all-round.ensures.gathered.copied
 
 pub returns-in-Ok : goal.returns-in-Ok
 returns-in-Ok g c = record {
   serves =
-      λ peers next. kept_and_put g.L.Ledgers.means g.C.Moments.gives g.H.Steward.renews g.H.Steward.waits g.P.Peers.does
+      λ next. kept_and_put g.L.Ledgers.means g.C.Moments.gives g.H.Steward.renews g.H.Steward.waits g.P.Peers.does
       c.args.ledgers.now c.in_round-replies.new.self c.args.moments.now c.copy_all-round.new.moments
-      peers (seats_in c.args.clients.now) (seats_in c.copy_all-round.new.clients)
-      (seats_in c.put_all-count.new.clients) next c.copy_all-round.result.messages.items
-      c.in-Ok.replies.items c.put_all-count.result c.copy_all-round.ensures.same
+      c.args.peers.now c.put_all.new.peers (seats_in c.args.clients.now)
+      (seats_in c.copy_all-round.new.clients) (seats_in c.put_all.new.clients) next c.copy_all-round.result.messages.items
+      c.in-Ok.replies.items c.put_all.result c.copy_all-round.ensures.same
       c.copy_all-round.ensures.gathered.given
       (g.met.L.Ledgers.lived _ _ c.in_round-replies.ensures.follows)
       (g.met.L.Ledgers.stays c.in_round-replies.new.self)
@@ -43,9 +43,9 @@ returns-in-Ok g c = record {
       (λ found may.
       let live = c.in-Ok.ensures.finds.live (λ same. cc) found may in
       (live, c.is_settled.ensures live found may))
-      c.put_all-count.ensures.put;
+      c.put_all.ensures.put;
   few =
-      let put = c.put_all-count.ensures.few in let copied = c.copy_all-round.ensures.few in omega (arith, put, copied);
+      let put = c.put_all.ensures.few in let copied = c.copy_all-round.ensures.few in omega (arith, put, copied);
 }
 
 pub tell_all-requires : goal.tell_all-requires
@@ -56,9 +56,9 @@ tell_all-requires g c =
 pub returns-in-Disk : goal.returns-in-Disk
 returns-in-Disk g c = record {
   serves =
-      λ peers next. lost_and_told g.L.Ledgers.means g.C.Moments.gives g.H.Steward.renews g.H.Steward.waits g.P.Peers.does
+      λ next. lost_and_told g.L.Ledgers.means g.C.Moments.gives g.H.Steward.renews g.H.Steward.waits g.P.Peers.does
       c.args.ledgers.now c.in_round-replies.new.self c.args.moments.now c.copy_all-round.new.moments
-      peers (seats_in c.args.clients.now) (seats_in c.copy_all-round.new.clients)
+      c.args.peers.now (seats_in c.args.clients.now) (seats_in c.copy_all-round.new.clients)
       (seats_in c.tell_all.new.clients) next c.copy_all-round.result.messages.items
       c.tell_all.result c.copy_all-round.ensures.same c.copy_all-round.ensures.gathered.given
       (g.met.L.Ledgers.stays c.args.ledgers.now)
@@ -90,9 +90,9 @@ returns-in-Disk g c = record {
 pub returns : goal.returns
 returns g c = record {
   serves =
-      λ peers next. taken_back g.L.Ledgers.means g.C.Moments.gives g.H.Steward.renews g.H.Steward.waits g.P.Peers.does
+      λ next. taken_back g.L.Ledgers.means g.C.Moments.gives g.H.Steward.renews g.H.Steward.waits g.P.Peers.does
       c.args.ledgers.now c.in_round-replies.new.self c.args.moments.now c.copy_all-round.new.moments
-      peers (seats_in c.args.clients.now) (seats_in c.copy_all-round.new.clients) next
+      c.args.peers.now (seats_in c.args.clients.now) (seats_in c.copy_all-round.new.clients) next
       c.copy_all-round.result.messages.items c.copy_all-round.ensures.same
       c.copy_all-round.ensures.gathered.given
       (g.met.L.Ledgers.lived _ _ c.in_round-replies.ensures.follows)

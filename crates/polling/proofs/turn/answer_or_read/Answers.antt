@@ -1,5 +1,6 @@
-use Rattle.std.proofs.Common.{inl, inr, refl, sym, subst, arith}
+use Rattle.std.proofs.Common.{inl, inr, refl, sym, subst, arith, List, ℕ}
 use Rattle.service.specs.Seen.{Whole}
+use Rattle.polling.specs.Peers.{Handed}
 use Rattle.polling.specs.Standing.{IsFinished, Finished}
 use Rattle.polling.proofs.GoingLemmas.{over_finished}
 use Rattle.polling.proofs.OneLemmas.{goes, replied, unmoved, whole_unmoved}
@@ -13,7 +14,11 @@ returns-in-Replied g c =
     (c.whole_ledgers_are_seen.ensures c.args.ledgers.now c.answer.new.ledgers c.args.moments.now
     c.answer.new.moments c.args.client.now c.answer.new.self c.in-Replied.ensures.answers.0
     c.in-Replied.ensures.answers.1)
-    c.is_settled.ensures)
+    c.is_settled.ensures
+    (subst
+    (λ (bytes : List ℕ).
+    g.P.Peers.does c.args.peers.now (Handed c.args.number bytes) c.answered.new.self)
+    c.unsent.ensures c.answered.ensures))
     (c.write_all.ensures.serves (Whole c.answer.new.ledgers) c.answer.new.moments)
     (λ none. inl refl) refl
 

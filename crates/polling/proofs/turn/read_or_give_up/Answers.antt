@@ -1,8 +1,9 @@
-use Rattle.std.proofs.Common.{inl, inr, false, refl, ap, sym, subst, ◌∙◌}
+use Rattle.std.proofs.Common.{inl, inr, false, refl, ap, sym, subst, ◌∙◌, List, ℕ}
 use Rattle.service.specs.Replies.{unavailable}
 use Rattle.clients.specs.Talk.{Talk, given_up}
 use Rattle.clients.specs.Answering.{IsReplyReady}
 use Rattle.service.specs.Seen.{Whole}
+use Rattle.polling.specs.Peers.{Handed}
 use Rattle.polling.proofs.OneLemmas.{replied, stirred, unmoved}
 use Rattle.polling.proofs.ThenLemmas.{then_one}
 use Rattle.polling.proofs.turn.read_or_give_up.Goals as goal
@@ -27,5 +28,9 @@ returns-in-Err g c moments =
     c.args.ledgers.now moments now)
     (ap given_up (sym c.reserve_due.ensures.same) ∙ sym c.give_up.ensures)
     (c.giving_up_replies.ensures c.args.ledgers.now moments c.args.client.now c.in-Err.ensures.due)))
-    c.is_settled.ensures)
+    c.is_settled.ensures
+    (subst
+    (λ (bytes : List ℕ).
+    g.P.Peers.does c.args.peers.now (Handed c.args.number bytes) c.answered.new.self)
+    c.unsent.ensures c.answered.ensures))
     (c.write_all.ensures.serves (Whole c.args.ledgers.now) moments) (λ none. inl refl) refl

@@ -141,7 +141,8 @@ fn notes_replies(rt: HostRuntime) -> Result<(), Fail> {
     let first = scene.sockets.write(0, b"HTTP/1.1 first");
     let second = scene.sockets.write(0, b"HTTP/1.1 second");
     scene.sockets.shared(2);
-    scene.sockets.answered(Batch::Transfers, b"reply");
+    scene.sockets.answered(0, Some(Batch::Transfers), b"reply");
+    scene.sockets.answered(0, None, b"another");
     scene.sockets.close(0);
     let third = scene.sockets.write(0, b"HTTP/1.1 third");
     assert_eq!(rt;
@@ -154,6 +155,7 @@ fn notes_replies(rt: HostRuntime) -> Result<(), Fail> {
         )
     );
     assert_eq!(rt; (notes.answered(), notes.batches.get()), ((2, 2), (0, 1)));
+    assert_eq!(rt; notes.marked.get(), 12);
     Ok(())
 }
 

@@ -57,6 +57,8 @@ pub struct Notes {
     shared: Cell<u64>,
     /// How many batches of accounts and of transfers were answered.
     pub batches: Cell<(u64, u64)>,
+    /// How many bytes of replies there were to mark.
+    pub marked: Cell<u64>,
     pub longest_turn: Cell<Duration>,
     /// Whether a call of its own is being read.
     pub is_busy: Cell<bool>,
@@ -79,6 +81,7 @@ impl Notes {
             replies: Cell::new(0),
             shared: Cell::new(0),
             batches: Cell::new((0, 0)),
+            marked: Cell::new(0),
             longest_turn: Cell::new(Duration::ZERO),
             is_busy: Cell::new(false),
             is_stopping: Cell::new(false),
@@ -122,6 +125,11 @@ impl Operator for Notes {
 
     fn shared(&self, messages: u64) {
         self.shared.set(self.shared.get().saturating_add(messages));
+    }
+
+    fn mark(&self, reply: &[u8]) {
+        let bytes = reply.len() as u64;
+        self.marked.set(self.marked.get().saturating_add(bytes));
     }
 
     fn answered(&self, batch: Batch, _reply: &[u8]) {
