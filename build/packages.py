@@ -1,11 +1,12 @@
 """Installs the program with its unit and its pages, or makes a tar or a package for Debian of them.
 
-    python3 build/packages.py --program PATH --gate FILE install --destdir FOLDER --prefix /usr/local
-    python3 build/packages.py --program PATH --gate FILE dist
-    python3 build/packages.py --program PATH --gate FILE deb
+    python3 build/packages.py [--program PATH] --gate FILE install --destdir FOLDER --prefix /usr/local
+    python3 build/packages.py [--program PATH] --gate FILE dist
+    python3 build/packages.py [--program PATH] --gate FILE deb
 
-PATH is the program, and FILE has the output of `make prove`; without it the manifest says so. Packages go
-to out/packages, with SHA256SUMS of all files there. The same commit and program give the same bytes."""
+PATH is the program. If it is left out, `install` takes the proved one, and the others build one that names
+its commit (build/packaged.py). FILE has the output of `make prove`; without it the manifest says so. Packages
+go to out/packages, with SHA256SUMS of all files there. The same commit and program give the same bytes."""
 
 import argparse
 import gzip
@@ -19,6 +20,8 @@ import subprocess
 import sys
 import tarfile
 import tempfile
+
+import packaged
 
 TOP = pathlib.Path(__file__).resolve().parents[1]
 OUT = TOP / "out/packages"
@@ -40,9 +43,11 @@ def sum_of(content):
     return hashlib.sha256(content).hexdigest()
 
 
-def proof(program):
+def proof(words):
     """Whether the program is the proved one."""
-    if program.resolve() == PROVED.resolve():
+    if not words.program and words.act != "install":
+        return "yes: build/packaged.py has proved and built it of this commit"
+    if words.ledgerd.resolve() == PROVED.resolve():
         return "yes: crates/ledgerd/out/ledgerd, which `make ledgerd` proves and builds"
     return "NO: this is not the program that `make ledgerd` proves and builds"
 
@@ -64,11 +69,11 @@ def gate(path):
     return last
 
 
-def manifest(program, printed):
-    """The manifest of a package."""
-    lines = {"version": VERSION, "commit": commit(), "proved": proof(program), "gate": gate(printed),
-             "program": f"sha256 {sum_of(program.read_bytes())}"}
-    told = asked_of(str(program.resolve()), "version").splitlines()
+def manifest(words):
+    """The manifest of a package. It ends with what `ledgerd version` prints."""
+    lines = {"version": VERSION, "commit": commit(), "proved": proof(words), "gate": gate(words.gate),
+             "program": f"sha256 {sum_of(words.ledgerd.read_bytes())}"}
+    told = asked_of(str(words.ledgerd.resolve()), "version").splitlines()
     return "".join(f"{name}: {value}\n" for name, value in lines.items()) + "".join(
         f"{line}\n" for line in told)
 
@@ -81,12 +86,12 @@ def pages():
     return {name: path.read_bytes() for name, path in found.items()}
 
 
-def tree(program, prefix, manifested):
+def tree(words, prefix):
     """The installed files by path below `prefix`: content and mode."""
     unit = UNIT.read_text().replace("/usr/local/bin/ledgerd", f"{prefix}/bin/ledgerd")
-    files = {"bin/ledgerd": (program.read_bytes(), 0o755),
+    files = {"bin/ledgerd": (words.ledgerd.read_bytes(), 0o755),
              "lib/systemd/system/ledgerd.service": (unit.encode(), 0o644),
-             "share/doc/ledgerd/MANIFEST": (manifested.encode(), 0o644)}
+             "share/doc/ledgerd/MANIFEST": (manifest(words).encode(), 0o644)}
     files.update((f"share/doc/ledgerd/{name}", (content, 0o644))
                  for name, content in pages().items())
     return files
@@ -103,9 +108,9 @@ def write(files, folder):
         beside.replace(path)
 
 
-def install(words, program):
+def install(words):
     folder = pathlib.Path(words.destdir + words.prefix)
-    files = tree(program, words.prefix, manifest(program, words.gate))
+    files = tree(words, words.prefix)
     write(files, folder)
     for name in sorted(files):
         print(folder / name)
@@ -118,8 +123,8 @@ def wheel():
         return made, pathlib.Path(room, made).read_bytes()
 
 
-def dist(words, program):
-    files = tree(program, "/usr/local", manifest(program, words.gate))
+def dist(words):
+    files = tree(words, "/usr/local")
     name, content = wheel()
     files[f"clients/{name}"] = (content, 0o644)
     sums = "".join(f"{sum_of(content)}  {path}\n" for path, (content, _) in sorted(files.items()))
@@ -159,15 +164,15 @@ def control(program, size):
             " whether this program is the proved one.\n")
 
 
-def deb(words, program):
-    files = tree(program, "/usr", manifest(program, words.gate))
+def deb(words):
+    files = tree(words, "/usr")
     packed = OUT / f"ledgerd_{VERSION}_{ARCHITECTURES.get(os.uname().machine, 'any')}.deb"
     with tempfile.TemporaryDirectory() as room:
         root = pathlib.Path(room, "root")
         write(files, root / "usr")
         (root / "DEBIAN").mkdir()
         size = sum(len(content) for content, _ in files.values())
-        (root / "DEBIAN/control").write_text(control(program, size))
+        (root / "DEBIAN/control").write_text(control(words.ledgerd, size))
         for script in sorted((TOP / "build/debian").iterdir()):
             shutil.copy(script, root / "DEBIAN" / script.name)
             (root / "DEBIAN" / script.name).chmod(0o755)
@@ -177,9 +182,19 @@ def deb(words, program):
     return packed
 
 
+def program_of(words):
+    """The program that is packed or installed."""
+    if words.act != "install" and not words.program:
+        return packaged.build()
+    program = words.program or PROVED
+    if not os.access(program, os.X_OK):
+        sys.exit(f"there is no program {program}: `make ledgerd` proves and builds it, or give LEDGERD=")
+    return program
+
+
 def main():
     asked = argparse.ArgumentParser()
-    asked.add_argument("--program", type=pathlib.Path, required=True)
+    asked.add_argument("--program", type=pathlib.Path)
     asked.add_argument("--gate", type=pathlib.Path, required=True)
     acts = asked.add_subparsers(dest="act", required=True)
     installs = acts.add_parser("install")
@@ -188,17 +203,15 @@ def main():
     acts.add_parser("dist")
     acts.add_parser("deb")
     words = asked.parse_args()
-    program = words.program
-    if not os.access(program, os.X_OK):
-        sys.exit(f"there is no program {program}: `make ledgerd` proves and builds it, or give LEDGERD=")
+    words.ledgerd = program_of(words)
     if words.act == "install":
-        return install(words, program)
+        return install(words)
     OUT.mkdir(parents=True, exist_ok=True)
-    packed = {"dist": dist, "deb": deb}[words.act](words, program)
+    packed = {"dist": dist, "deb": deb}[words.act](words)
     listed = sorted(each for each in OUT.iterdir() if each.is_file() and each.name != "SHA256SUMS")
     sums = "".join(f"{sum_of(each.read_bytes())}  {each.name}\n" for each in listed)
     (OUT / "SHA256SUMS").write_text(sums)
-    print(manifest(program, words.gate), packed.relative_to(TOP), sep="")
+    print(manifest(words), packed.relative_to(TOP), sep="")
 
 
 if __name__ == "__main__":

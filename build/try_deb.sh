@@ -45,6 +45,8 @@ cp "$deb" "$root/ledgerd.deb"
 
 inside dpkg -i /ledgerd.deb
 must "the program runs" equal "$(inside ledgerd version | sed -n 2p)" "schema 3"
+must "it names its commit" equal "$(inside ledgerd version | tail -n 1)" \
+    "$(inside sed -n 's/^commit: /commit /p' /usr/share/doc/ledgerd/MANIFEST)"
 must "no library is missing" equal "$(inside ldd /usr/bin/ledgerd | grep -c 'not found')" 0
 must "the folder is its user's alone" \
     equal "$(inside stat -c '%U:%G %a' /var/lib/ledgerd)" "ledgerd:ledgerd 700"

@@ -9,10 +9,12 @@ CLIENT is python, typescript or go. It names missing languages first. It exits w
 or if no client could be tested."""
 
 import argparse
+import contextlib
 import os
 import pathlib
 import re
 import shutil
+import signal
 import subprocess
 import sys
 import tempfile
@@ -47,10 +49,10 @@ def clients(room):
         Client("python", ["python3"],
                [[*python, "-m", "unittest", "discover", str(CLIENTS / "python")]],
                [driver, [*driver, "async"]], [*python, str(CLIENTS / "python/examples/wallet.py")]),
-        Client("typescript", ["node"],
+        Client("typescript", ["node", "openssl"],
                [["node", "--test", str(CLIENTS / "typescript/test")]], [node],
                ["node", str(CLIENTS / "typescript/examples/wallet.mjs")]),
-        Client("go", ["go"],
+        Client("go", ["go", "openssl"],
                [["go", "vet", "./..."], ["go", "test", "-count=1", "./..."],
                 ["go", "build", "-o", f"{room}/", "./internal/driver", "./examples/wallet"]],
                [[f"{room}/driver"]], [f"{room}/wallet"], CLIENTS / "go"),
@@ -60,20 +62,38 @@ def clients(room):
 def in_one_line(words):
     """A command in one line, with short paths."""
     return " ".join(each.replace(f"{TOP}/", "") if each.startswith(f"{TOP}/")
-                    else os.path.basename(each) if os.path.isabs(each) else each for each in words)
+                    else os.path.basename(each.rstrip("/")) if os.path.isabs(each) else each
+                    for each in words)
 
 
-def run(name, words, folder=TOP, env=None, wanted=None):
-    """Whether a command succeeds, with the wanted output. It prints one line about it."""
+def ended(words, folder, env):
+    """The status and output of a command. What it leaves running is killed."""
+    with tempfile.TemporaryFile("w+") as told:
+        child = subprocess.Popen(words, cwd=folder, env=env, stdout=told, stderr=subprocess.STDOUT,
+                                 start_new_session=True)
+        try:
+            status = child.wait(PATIENCE)
+        except subprocess.TimeoutExpired:
+            status = None
+            told.write(f"no end after {PATIENCE} s\n")
+        finally:
+            with contextlib.suppress(ProcessLookupError):
+                os.killpg(child.pid, signal.SIGKILL)
+            child.wait()
+        told.seek(0)
+        return status, told.read()
+
+
+def run(name, words, folder=TOP, env=None, wanted=None, shows_end=False):
+    """Whether a command succeeds, with the wanted output. It prints one line about it, and the last line of
+    the output if `shows_end`."""
     begun = time.monotonic()
-    try:
-        done = subprocess.run(words, cwd=folder, text=True, timeout=PATIENCE, stdout=subprocess.PIPE,
-                              stderr=subprocess.STDOUT, env={**os.environ, **(env or {})})
-        output, holds = done.stdout, done.returncode == 0 and wanted in (None, done.stdout)
-    except subprocess.TimeoutExpired as error:
-        output, holds = f"no end after {error.timeout} s\n", False
+    status, output = ended(words, folder, {**os.environ, **(env or {})})
+    holds = status == 0 and wanted in (None, output)
     word = "ok" if holds else "FAILED"
     print(f"{name}: {in_one_line(words)}: {word}, {time.monotonic() - begun:.0f} s", flush=True)
+    if shows_end and holds:
+        print(f"{name}: {output.splitlines()[-1]}", flush=True)
     if not holds:
         print(output[-4000:], flush=True)
     return holds
@@ -113,7 +133,8 @@ def try_one(client, program, seconds, room):
         env.update(LEDGER_URL=service.url, LEDGER_KEY=KEY)
         holds.append(run(client.name, client.wallet, env=env, wanted=WALLET))
     kills = [sys.executable, str(CLIENTS / "harness/kills.py"), program, "--seconds", str(seconds)]
-    holds += [run(client.name, [*kills, "--", *driver]) for driver in client.drivers if seconds]
+    holds += [run(client.name, [*kills, "--", *driver], shows_end=True)
+              for driver in client.drivers if seconds]
     return all(holds)
 
 
@@ -138,14 +159,15 @@ def main():
     asked.add_argument("--seconds", type=float, default=60, help="of kills under each client")
     words = asked.parse_args()
     program = os.path.abspath(words.program)
-    if not os.access(program, os.X_OK):
-        sys.exit(f"there is no program {words.program}: `make ledgerd` builds it, or give LEDGERD=PATH")
     with tempfile.TemporaryDirectory() as room:
         chosen = [each for each in clients(room) if not words.clients or each.name in words.clients]
         there = [each for each in chosen if not each.lacks()]
         for each in chosen:
             if each.lacks():
-                print(f"{each.name}: {', '.join(each.lacks())} is missing, so this client is not tested")
+                print(f"{each.name}: {', '.join(each.lacks())} is missing, so this client is not tested",
+                      flush=True)
+        if not os.access(program, os.X_OK):
+            sys.exit(f"there is no program {words.program}: `make ledgerd` builds it, or give LEDGERD=PATH")
         misfits = list(misfits_of_pages())
         print(*misfits, sep="\n", end="\n" if misfits else "")
         holds = [try_one(each, program, words.seconds, room) for each in there]

@@ -83,6 +83,14 @@ class AsyncLedger:
         """Sends transfers, posts and voids, as one batch of at most 1,000."""
         return await self._run(calls.create_transfers(transfers))
 
+    async def lint_accounts(self, accounts: Iterable[Account]) -> int:
+        """Has the service judge accounts, and books nothing. How many there are."""
+        return await self._run(calls.lint_accounts(accounts))
+
+    async def lint_transfers(self, transfers: Iterable[Transfer]) -> int:
+        """Has the service judge transfers, and books nothing. How many there are."""
+        return await self._run(calls.lint_transfers(transfers))
+
     async def lookup_accounts(self, ids: Iterable[int]) -> Page[Account]:
         """The accounts that exist among these ids, in the order asked."""
         return await self._run(calls.lookup_accounts(ids))

@@ -60,6 +60,14 @@ def create_transfers(transfers: Iterable[Transfer]) -> Call[Results]:
     return _batch("/transfers", events, TransferResult.EXISTS, _transfers_stand)
 
 
+def lint_accounts(accounts: Iterable[Account]) -> Call[int]:
+    return _judged("/lint/accounts", _events(accounts, Account))
+
+
+def lint_transfers(transfers: Iterable[Transfer]) -> Call[int]:
+    return _judged("/lint/transfers", _events(transfers, Transfer))
+
+
 def lookup_accounts(ids: Iterable[int]) -> Call[Page[Account]]:
     return _look_up("/accounts/lookup", ids, "accounts", wire.account_in)
 
@@ -185,6 +193,12 @@ def _found(
         error.may_be_booked = True
         raise
     return found
+
+
+def _judged(path: str, events: Sequence[Event]) -> Call[int]:
+    message = Message("POST", path, wire.events_body(events))
+    reply = yield message
+    return _read(message, reply, wire.events_in)
 
 
 def _look_up(

@@ -94,6 +94,15 @@ class Ledger:
         each. A batch of none moves the clock, so that holds which are due expire."""
         return self._run(calls.create_transfers(transfers))
 
+    def lint_accounts(self, accounts: Iterable[Account]) -> int:
+        """Has the service judge accounts as `create_accounts` sends them, and books nothing. How many
+        there are. `Refused` says which field of which one is wrong."""
+        return self._run(calls.lint_accounts(accounts))
+
+    def lint_transfers(self, transfers: Iterable[Transfer]) -> int:
+        """Has the service judge transfers as `create_transfers` sends them, and books nothing."""
+        return self._run(calls.lint_transfers(transfers))
+
     def lookup_accounts(self, ids: Iterable[int]) -> Page[Account]:
         """The accounts with these ids that are there, at most 1,000, in the order asked.
 

@@ -70,6 +70,14 @@ def object_in(body: bytes) -> Dict[str, Any]:
     return told
 
 
+def events_in(body: bytes) -> int:
+    """The number of events of a body that was judged."""
+    events = json.loads(body)["events"]
+    if not isinstance(events, int):
+        raise ValueError("the number of events is no number")
+    return events
+
+
 def is_serving(body: bytes) -> bool:
     """Whether a reply tells that the service serves."""
     try:

@@ -70,8 +70,8 @@ class Messages(unittest.TestCase):
     def test_each_route(self):
         asked = AccountFilter(account_id=9)
         empty = {"clock": "0", "next": "0", "results": [], "accounts": [], "transfers": [],
-                 "balances": [], "pending": []}
-        script = [say(ok(empty)) for _ in range(10)] + [say(statement_bytes(pages.statement()))]
+                 "balances": [], "pending": [], "events": 0}
+        script = [say(ok(empty)) for _ in range(12)] + [say(statement_bytes(pages.statement()))]
         script.append(say(ok({"serving": True})))
         with Fake(script) as fake:
             ledger = fake.ledger()
@@ -84,6 +84,8 @@ class Messages(unittest.TestCase):
             ledger.query_accounts(QueryFilter())
             ledger.query_transfers(QueryFilter())
             ledger.lookup_pending([])
+            ledger.lint_accounts([])
+            ledger.lint_transfers([])
             ledger.open_pending()
             ledger.statement(9)
             self.assertTrue(ledger.health())

@@ -25,6 +25,7 @@ class Readme(unittest.TestCase):
         self.port = free_port()
         (lines,) = snippets("sh")
         lines = lines.replace("8080", str(self.port)) + 'echo "$LEDGER_KEY $LEDGER_URL $!"\n'
+        lines = f"trap 'test $? = 0 || kill $!' EXIT\n{lines}"
         path = folder + os.pathsep + os.environ["PATH"]
         os.symlink(README.parents[1], os.path.join(folder, "clients"))
         with open(os.path.join(folder, "told"), "w+") as told:

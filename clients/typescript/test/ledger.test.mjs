@@ -27,10 +27,14 @@ async function bodyOf(request) {
 }
 
 test("each call gets its own reply, over so many connections", async () => {
-  let [now, most] = [0, 0];
+  let [now, most, meet] = [0, 0];
+  // The first four requests are answered once all four are there.
+  const met = new Promise((resolve) => { meet = resolve; });
   const echo = async (request, response) => {
     most = Math.max(most, ++now);
+    if (now === 4) meet();
     const [id] = JSON.parse(await bodyOf(request));
+    await met;
     await new Promise((resolve) => setTimeout(resolve, 2));
     now--;
     response.end(JSON.stringify({ clock: "5", pending: [{ id, due: "0", state: "open" }] }));

@@ -4,8 +4,9 @@
 
 mod run;
 
+use built_from::commit_line;
 use command_line::{Command, command};
-use command_texts::{Fault, tell_fault};
+use command_texts::{Fault, put_text, tell_fault};
 use commands::{Place, program, serve_file, tell_file_fault};
 use listener::Site;
 use records::Streamed;
@@ -47,11 +48,26 @@ fn main(rt: HostRuntime) -> ExitCode {
             let is_made = false;
             tell(&rt, ended, Some(Place { path: db, is_made }))
         }
-        _ => {
-            let (out, mut err) = (Streamed::new(rt.stdout()), Streamed::new(rt.stderr()));
-            program(&rt, &words, Unknown, out, &mut err)
-        }
+        Ok(Command::Version) => version(&rt, &words),
+        _ => perform(&rt, &words),
     })
+}
+
+// Does what the words ask of files.
+fn perform(rt: &HostRuntime, words: &[String]) -> u8 {
+    let (out, mut err) = (Streamed::new(rt.stdout()), Streamed::new(rt.stderr()));
+    program(rt, words, Unknown, out, &mut err)
+}
+
+// Prints the lines of `--version`, and in a packaged program the commit behind them.
+fn version(rt: &HostRuntime, words: &[String]) -> u8 {
+    match perform(rt, words) {
+        0 => {
+            let ended = put_text(&mut Streamed::new(rt.stdout()), commit_line());
+            tell(rt, ended.map(|()| 0), None)
+        }
+        status => status,
+    }
 }
 
 // The words after the program's name.
