@@ -16,12 +16,13 @@ from xml.sax.saxutils import escape
 TOP = pathlib.Path(__file__).resolve().parent.parent
 # Crates that the program does not call: tests, what they need, laws over what the program calls, and
 # what it does not use yet.
-BESIDE = {"keyed_trees", "samples", "failing_streams", "failing_disk", "noting_disk", "whole_runs"}
+BESIDE = {"keyed_trees", "ledger_layout", "ledger_spans", "ledger_entries", "ledger_trees", "seals", "samples",
+          "failing_streams", "failing_disk", "noting_disk", "whole_runs"}
 # Each row of the figure from the top: its parts beside each other. A crate may stand on crates of its
 # own row and of the rows below.
 LAYERS = [
     [("Program", "main; a body from standard input, answered over lists in memory",
-      ["ledgerd", "bodies", "plain"])],
+      ["ledgerd", "bodies", "plain", "built_from"])],
     [("Commands and supervisor", "each command; the service; reopens a failed file, settles holds",
       ["commands", "listener", "command_line"]),
      ("Operator", "the admin socket, copies of a served file, texts",

@@ -1,9 +1,0 @@
-use Rattle.std.proofs.Common.{◌∙◌, ◌++◌, ap}
-use Rattle.ledger_http.specs.ReplyText.{body_text}
-use Rattle.ledger_http.proofs.reply.Reply.of_body.Goals as goal
-
-pub returns : goal.returns
-unfolding body_text
-returns c =
-    c.into.ensures ∙ c.in_ok-extend_from_slice.ensures.items
-    ∙ ap (λ front. front ++ c.args.body.now) (ap (λ v. v.items) c.into_bytes-bytes.ensures.value ∙ c.in_ok-head.ensures)
