@@ -1,4 +1,4 @@
-//! Rows that are told apart by their ids and times.
+//! Rows with distinct ids and times.
 
 ghost use Rattle.std.specs.Prelude.{◌≡◌, Some};
 
