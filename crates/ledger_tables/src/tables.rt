@@ -18,7 +18,7 @@ ghost use Rattle.ledger_sql.specs.Calls.{LeavesOver, LeavesRead, LeavesWritten, 
 ghost use Rattle.ledger_sql.specs.Effects.{AddsFileRow, AddsRows, IsInside, SetsDigest, SetsOne};
 ghost use Rattle.ledger_sql.specs.Entries.{AreNewestFirst, AreOldestFirst, HandsUpTo, ReadsUpTo};
 ghost use Rattle.ledger_sql.specs.Entries.{entries_when};
-ghost use Rattle.ledger_sql.specs.Frames.{Follows, IsKeptOrUndone};
+ghost use Rattle.ledger_sql.specs.Frames.{Follows, IsKeptOrUndone, Live};
 ghost use Rattle.ledger_sql.specs.Reading.{ReadsRows, account_cmp, balance_cmp, clock_cmp};
 ghost use Rattle.ledger_sql.specs.Reading.{directory_cmp, history_cmp, id_cmp, status_cmp};
 ghost use Rattle.ledger_sql.specs.Reading.{transfer_cmp};
@@ -37,6 +37,7 @@ ghost use Rattle.ledger_sql.specs.TableRows.{with_name};
 ghost use Rattle.ledger_sql.specs.Values.{account_values, balance_values, clock_values};
 ghost use Rattle.ledger_sql.specs.Values.{directory_values, history_values, id_values};
 ghost use Rattle.ledger_sql.specs.Values.{status_values, transfer_values, version_values};
+ghost use Rattle.ledger_rules.specs.Whole.{IsWhole};
 ghost use Rattle.ledger_tables.specs.Calls.{HasSeenLedger, IfHonest, LeavesRowFound};
 
 use ledger_sql::{EntrySink, TableFault};
@@ -300,8 +301,10 @@ pub trait LedgerTables {
     fn begin(&mut self) -> Result<(), Unavailable>
         ensures { LeavesWritten HasBegun (state self.old) (state self.new) result };
 
-    /// Commits the transaction. A crash in it leaves what was committed before or what was written.
+    /// Commits the transaction, whose rows have keys of their own. A crash in it leaves what was
+    /// committed before or what was written.
     fn commit(&mut self) -> Result<(), Unavailable>
+        requires { Live (state self.old) → IsWhole (state self.old).now.trees }
         ensures ok { HasCleanDisk (state self.new) → OnOk result
             (HasCommitted (state self.old) (state self.new)) }
         ensures err { HasCleanDisk (state self.new) → OnErr result

@@ -14,7 +14,7 @@ use Rattle.rows.specs.Prescribed.{rows_for}
 use Rattle.sqlite_keyed.specs.Lists.{sort_by}
 use Rattle.sqlite_value.specs.Order.{Row, column}
 use Rattle.sqlite_trees.specs.Tree.{Trees}
-use Rattle.sqlite_trees.proofs.ListLemmas.{IsPermutation-filter}
+use Rattle.sqlite_trees.proofs.ListLemmas.{IsPermutation-filter, all-permutation}
 use Rattle.sqlite.specs.Effect.{Database}
 use Rattle.ledger_sql.specs.Effects.{IsLedger}
 use Rattle.ledger_sql.specs.TableRows.{directory_rows, cells_from, is_int, is_text, is_blob}
@@ -22,7 +22,7 @@ use Rattle.ledger_sql.specs.Values.{directory_values}
 use Rattle.stored_tables.specs.Covers.{IsCovered}
 use Rattle.stored_tables.specs.Holds.{HoldsMachine}
 use Rattle.stored_tables.specs.MachineOf.{machine_of, account_of, transfer_of, clock_of, wide}
-use Rattle.stored_ledgers.specs.Directory.{with_number, with_name, with_digest, first_number, number_of, tenants_in}
+use Rattle.stored_ledgers.specs.Directory.{with_number, with_name, with_digest, IsEntry, first_number, number_of, tenants_in}
 use Rattle.stored_ledgers.specs.DueSets.{DueSet, DueSets, due_cmp, CoversMachine, AreCovered}
 use Rattle.stored_ledgers.specs.Joining.{Joins, AddsTenant}
 use Rattle.stored_ledgers.specs.Ledger.{HoldsLedgers}
@@ -133,6 +133,8 @@ module _ (number : ℕ) (name digest : List ℕ) (old new : Database) (ledgers :
     schema = subst IsLedger (sym joins.schema) ledgers.schema;
     version = ap (map (cells_from 2 1)) joins.version ∙ ledgers.version;
     numbered = joins.numbered;
+    entries = all-permutation IsEntry _ _ joins.directory
+        (record { name = name; named = refl; digest = digest; known = refl }, ledgers.entries);
     distinct = record {
       numbers = λ n. few_new (λ row. is_int n (column row 0)) entry (directory_rows old.trees) _
           joins.directory (numbered_as n) (ledgers.distinct.numbers n);

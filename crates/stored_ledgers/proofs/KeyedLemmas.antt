@@ -9,14 +9,14 @@ use Rattle.std.proofs.lemmas.List.Sorted.{IsPermutation-refl, IsPermutation-sym,
 use Rattle.std.proofs.lemmas.Slice.Eq.{bytes_eq-Decides}
 use Rattle.sqlite_value.specs.Order.{Row, column}
 use Rattle.sqlite_trees.specs.Tree.{Trees}
-use Rattle.sqlite_trees.proofs.ListLemmas.{IsPermutation-filter}
+use Rattle.sqlite_trees.proofs.ListLemmas.{IsPermutation-filter, all-filter, all-permutation}
 use Rattle.sqlite.specs.Effect.{Database}
 use Rattle.ledger_sql.specs.Effects.{IsLedger}
 use Rattle.ledger_sql.specs.TableRows.{directory_rows, cells_from, is_int, is_text, is_blob}
 use Rattle.ledger_sql.specs.Values.{directory_values}
 use Rattle.stored_tables.specs.Holds.{HoldsMachine}
 use Rattle.stored_tables.specs.MachineOf.{machine_of}
-use Rattle.stored_ledgers.specs.Directory.{with_number, with_name, with_digest, first_number, number_of, tenants_in}
+use Rattle.stored_ledgers.specs.Directory.{with_number, with_name, with_digest, IsEntry, first_number, number_of, tenants_in}
 use Rattle.stored_ledgers.specs.DirectoryLaws.{filter_head, only_among}
 use Rattle.stored_ledgers.specs.DueSets.{DueSet, DueSets, CoversMachine, AreCovered}
 use Rattle.stored_ledgers.specs.Keying.{IsKeyed, MovesKey, without_number}
@@ -203,6 +203,10 @@ module _ (name digest : List ℕ) (old new : Database) (ledgers : HoldsLedgers o
       schema = subst IsLedger (sym keyed.schema) ledgers.schema;
       version = ap (map (cells_from 2 1)) keyed.version ∙ ledgers.version;
       numbered = keyed.numbered;
+      entries = all-permutation IsEntry _ _ keyed.directory (
+        record { name = name; named = refl; digest = digest; known = refl },
+        all-filter IsEntry (λ row. not (is_int number (column row 0))) (directory_rows old.trees) ledgers.entries,
+      );
       distinct = record {
         numbers = λ n. few_after (λ row. is_int n (column row 0))
             (alone_at (λ row. is_int n (column row 0)) (ledgers.distinct.numbers n)) (ledgers.distinct.numbers n);

@@ -1,5 +1,6 @@
 -- What a tenant's batch leaves of a database that holds ledgers.
 use Rattle.std.proofs.Common.{◌≡◌, ◌≢◌, ℕ, ◌≤◌, ℤ, inl, inr, Some, None, List, [], ◌∷◌, map, filter, length, refl, sym, ap, subst, ◌∙◌}
+use Rattle.std.specs.List.{AllByRecursion}
 use Rattle.std.specs.Ordering.{nat_cmp}
 use Rattle.sqlite_value.specs.Order.{column}
 use Rattle.sqlite_keyed.specs.Lists.{sort_by}
@@ -12,7 +13,7 @@ use Rattle.stored_tables.specs.Holds.{HoldsMachine}
 use Rattle.stored_tables.specs.InBatch.{IsBatchOf}
 use Rattle.stored_tables.specs.MachineOf.{machine_of, account_of, transfer_of, clock_of, wide}
 use Rattle.stored_ledgers.specs.DueSetLaws.{same_number}
-use Rattle.stored_ledgers.specs.Directory.{with_number, AreDistinct, first_number, number_of, tenants_in}
+use Rattle.stored_ledgers.specs.Directory.{with_number, AreDistinct, IsEntry, first_number, number_of, tenants_in}
 use Rattle.stored_ledgers.specs.Ledger.{HoldsLedgers, HasNoRows}
 use Rattle.stored_ledgers.proofs.TenantLemmas.{one_digest, has_row}
 
@@ -92,6 +93,7 @@ module _ (digest : List ℕ) (tenant : ℤ) (old now : Database) (found : number
     schema = batch.ledger;
     version = ap (map (cells_from 2 1)) batch.others.version ∙ ledgers.version;
     numbered = batch.numbered;
+    entries = subst (AllByRecursion IsEntry) (sym (same_directory old.trees now.trees batch.others.directory)) ledgers.entries;
     distinct = distinct_kept old.trees now.trees batch.others.directory ledgers.distinct;
     machines = λ other number is. elim (same_number number tenant) [
       | inl same ↦ subst (λ t. HoldsMachine t (machine_of t now.trees) now.trees) (sym same) batch.holds

@@ -19,3 +19,8 @@ mod SeenLemmas
 mod HoldLemmas
 mod SearchLemmas
 mod OverdueLemmas
+mod KeyValues
+mod OneRow
+mod TableKeys
+mod OwnTables
+mod OwnKeys

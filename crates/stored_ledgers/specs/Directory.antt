@@ -5,7 +5,7 @@ use Rattle.std.specs.Option.{option_map}
 use Rattle.std.specs.Ordering.{int_eq}
 use Rattle.rows.specs.declared.all_rows.DirectoryRow.{DirectoryRow}
 use Rattle.sqlite_value.specs.declared.value.Value.{Value}
-use Rattle.sqlite_value.specs.declared.value.Value.TheVariants.{Int, Blob}
+use Rattle.sqlite_value.specs.declared.value.Value.TheVariants.{Int, Text, Blob}
 use Rattle.sqlite_value.specs.Order.{Row, column}
 use Rattle.sqlite_trees.specs.Tree.{Trees}
 use Rattle.chain.specs.Ledgers.{Tenants}
@@ -25,6 +25,13 @@ with_digest digest trees = filter (λ row. is_blob digest (column row 2)) (direc
 -- the numbers, names and digests of all tenants are as before
 abbrev pub KeepsDirectory : Trees → Trees → Type 0
 KeepsDirectory old new = directory_rows new ≡ directory_rows old
+
+-- the row of a tenant has a name, and the bytes of a digest
+pub record IsEntry (row : Row) : Type 0 where
+  pub name : List ℕ
+  pub named : column row 1 ≡ Text name
+  pub digest : List ℕ
+  pub known : column row 2 ≡ Blob digest
 
 -- no two tenants have one number, one name or one digest
 pub record AreDistinct (trees : Trees) : Type 0 where

@@ -16,3 +16,4 @@ pub mod Rounds
 pub mod RoundLaws
 pub mod Looks
 pub mod Calls
+pub mod OwnKeys

@@ -75,6 +75,8 @@ impl<W: Work + Drop> Change for TenantBatch<'_, W> {
 
     ghost refuses = { λ batch sets old unknown. tenants_in old.trees batch.digest.now ≡ None };
 
+    ghost holds = { λ it sets old output after new done. done.1.ledgers };
+
     fn run<T: LedgerTables>(
         self,
         tables: &mut T,

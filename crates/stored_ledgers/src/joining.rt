@@ -83,6 +83,8 @@ impl Change for Joining<'_> {
     ghost refuses = { λ it sets old taken.
         AreTaken it.name.now it.digest.now old.trees (Some taken) };
 
+    ghost holds = { λ it sets old output after new done. done.1.ledgers };
+
     fn run<T: LedgerTables>(
         self,
         tables: &mut T,

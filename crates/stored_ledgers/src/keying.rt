@@ -69,6 +69,8 @@ impl Change for Keying<'_> {
     ghost refuses = { λ it sets old refused.
         IsKeyRefused it.name.now it.digest.now old.trees refused };
 
+    ghost holds = { λ it sets old output after new done. done.1.ledgers };
+
     fn run<T: LedgerTables>(
         self,
         tables: &mut T,

@@ -9,6 +9,7 @@ pub mod joining;
 pub mod keying;
 pub mod laws;
 pub mod overdue;
+pub mod own_keys;
 pub mod probe;
 mod round;
 pub mod rounds;

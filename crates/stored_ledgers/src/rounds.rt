@@ -82,6 +82,8 @@ impl<W: RoundWork + Drop> Change for WholeRound<W> {
 
     ghost refuses = { λ round sets old never. ⊥ };
 
+    ghost holds = { λ it sets old output after new done. done.1.ledgers };
+
     fn run<T: LedgerTables>(
         self,
         tables: &mut T,

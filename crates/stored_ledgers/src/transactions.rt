@@ -5,8 +5,10 @@ ghost use Rattle.records.specs.declared.unavailable.Unavailable.TheVariants.{Dis
 ghost use Rattle.sqlite.specs.Effect.{Database};
 ghost use Rattle.sqlite.specs.State.{HasCleanDisk, Survives};
 ghost use Rattle.ledger_sql.specs.Frames.{Live, Follows};
+ghost use Rattle.stored_ledgers.specs.Ledger.{HoldsLedgers};
 ghost use Rattle.stored_ledgers.specs.Transactions.{IsReady, HasOnlyBegun, IsQuiet, IsSame, IfAnswered, UnlessMade, MayLeave};
 
+use crate::own_keys::law_ledgers_own_their_keys;
 use crate::probe::{ends_open, or_disk_fault};
 use ledger_tables::LedgerTables;
 use records::Unavailable;
@@ -25,6 +27,10 @@ pub trait Change {
     ghost does: { Self → Self.Memory → Database → Self.Output → Self.Memory → Database → Type 0 };
     // Of which memory and which database it is refused.
     ghost refuses: { Self → Self.Memory → Database → Self.Refusal → Type 0 };
+    // The database after it holds ledgers.
+    ghost holds: { (change : Self) (memory : Self.Memory) (old : Database) →
+        (output : Self.Output) (after : Self.Memory) (new : Database) →
+        does change memory old output after new → HoldsLedgers new };
 
     /// Makes it inside a transaction. Whatever it answers, the memory still serves the database
     /// before it.
@@ -72,6 +78,7 @@ pub fn in_transaction<T: LedgerTables, C: Change + Drop>(
     if let Err(why) = tables.begin() {
         return Err(or_disk_fault(tables, why));
     }
+    law_ledgers_own_their_keys();
     match change.run(tables, memory) {
         Ok(Ok(output)) => match tables.commit() {
             Ok(()) => Ok(Ok(output)),

@@ -30,3 +30,13 @@ returns-in-Err-commit-clause-survives g c =
     })
     (λ _ trees none. absurd none) c.in-Err-commit.ensures.survives
     c.or_disk_fault-in-Err-commit.ensures.over.follows.survives)
+
+-- the database after the change holds ledgers, so its keys are its own
+pub commit-requires : goal.commit-requires
+commit-requires g c live =
+    let old = g.T.LedgerTables.state c.args.tables.now in
+    let made = g.T.LedgerTables.state c.run.new.tables in
+    let clean : HasCleanDisk made = live.0 in
+    let done : g.C.Change.does c.args.change c.args.memory.now old.now c.in-Ok-Ok.output c.run.new.memory made.now
+    = search rules in
+    c.law_ledgers_own_their_keys.ensures made.now (g.C.Change.holds _ _ _ _ _ made.now done)

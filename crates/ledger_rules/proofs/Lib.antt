@@ -1,0 +1,2 @@
+mod FittingRows
+mod WholeFiles
