@@ -1,5 +1,5 @@
 -- What the calls of a store leave of what tables keep true of it, and of what a crash may leave.
-use Rattle.std.proofs.Common.{◌≡◌, ◌⊎◌, ◌≢◌, ◌≤◌, ℕ, ℤ, Bool, true, false, List, [], ◌∷◌, ◌++◌, pos, ◌+ℤ◌, map, if◌then◌else◌, Contains, IsTrue, refl, sym, ap, subst, ◌∙◌, inl, inr, arith, true≢false}
+use Rattle.std.proofs.Common.{◌≡◌, ◌⊎◌, ◌≢◌, ◌≤◌, ℕ, ℤ, Bool, true, false, List, [], ◌∷◌, ◌++◌, pos, ◌+ℤ◌, map, Contains, IsTrue, refl, sym, ap, subst, ◌∙◌, inl, inr, arith, true≢false}
 use Rattle.std.specs.List.{AllByRecursion}
 use Rattle.std.proofs.lemmas.List.Elements.{All-from_recursion, All-contains}
 use Rattle.sqlite_value.specs.Order.{Row}
@@ -7,49 +7,61 @@ use Rattle.sqlite_value.specs.declared.value.Value.TheVariants.{Int}
 use Rattle.sqlite_trees.specs.declared.store.Shape.{Shape}
 use Rattle.sqlite_trees.specs.declared.store.Shape.TheVariants.{Table, Index as Ordered}
 use Rattle.sqlite_trees.specs.declared.store.Store.{Ghosts}
-use Rattle.sqlite_trees.specs.Tree.{Trees, IsAscending}
-use Rattle.sqlite_trees.specs.View.{View, doubt, IsClean, IsQuiet, IsRolledBack, Commits, Marks, Releases}
+use Rattle.sqlite_trees.specs.Objects.{catalog_tree}
+use Rattle.sqlite_trees.specs.Tree.{Trees, IsAscending, rowid, put_row, without_rowid}
+use Rattle.sqlite_trees.specs.View.{View, Snapshot, doubt, IsClean, IsQuiet, IsRolledBack, Commits, Marks, Releases}
+use Rattle.sqlite_trees.proofs.ListLemmas.{all-filter}
+use Rattle.sqlite_trees.proofs.TreeLemmas.{all-put_row}
 use Rattle.sqlite_sql.specs.declared.query.Index.{Index}
-use Rattle.sqlite_sql.specs.Catalog.{IsIndexOf, IsIndexed, IsCatalog}
+use Rattle.sqlite_sql.specs.Catalog.{IsIndexOf, IsCatalog}
 use Rattle.sqlite_exec.specs.Calls.{OnlyReads, KeepsLists, SetsTable, IsReady}
-use Rattle.sqlite_rules.specs.Edit.{next_rowid}
+use Rattle.sqlite_rules.specs.Edit.{id_in, next_rowid}
+use Rattle.keyed_trees.specs.declared.layout.Layout.{Ghosts as Layout}
+use Rattle.keyed_trees.specs.Files.{IsFileOf, MayBeCommitted, MayStand}
 use Rattle.keyed_trees.specs.Layout.{KeyShape, key_of}
 use Rattle.keyed_trees.specs.NextRowids.{NextRowid, AreNext, Knows, without}
-use Rattle.keyed_trees.specs.Serving.{IsServing, IsFreshFor, AreLeftIndexed, KeepsTables}
+use Rattle.keyed_trees.specs.Serving.{HasShapes, IsServing, KeepsTables}
 use Rattle.keyed_trees.specs.StoreCalls.{Serves, AppendsRow, SetsKey, GoesBackOrStays}
-use Rattle.keyed_trees.proofs.EntryLemmas.{from_map}
+use Rattle.keyed_trees.proofs.ConsistentLemmas.{IsApart, key_apart, table_apart}
 use Rattle.keyed_trees.proofs.RowidLemmas.{next_rowid-append}
 use Rattle.keyed_trees.proofs.OpenLemmas.{open_is_clean, sound_is_open}
-use Rattle.keyed_trees.proofs.NextRowidLemmas.{next_of_others, next_known}
+use Rattle.keyed_trees.proofs.NextRowidLemmas.{all-after, next_of_others, next_known}
 use Rattle.keyed_trees.proofs.ServingLemmas.{serving_next, serving_if_clean, serving_read, serving_undone, serving_set, serving_committed, serving_marked, serving_released, serving_back_or_still, serving_over, serving_ready, serving_fresh}
 
 lists_of : (v w : View) → IsRolledBack v w → KeepsLists v w
 lists_of v w it = record { shape = it.shape; reals = it.reals; committed_shape = it.committed_shape; committed_reals = it.committed_reals; numbered = it.numbered }
 
-module _ {S : Type 0} (g : Ghosts S) (tables : List ℕ) (keys : List KeyShape) (catalog : List Index) (known : List NextRowid) (mode : Bool) (a : S) (was : KeepsTables g tables keys a catalog known mode) where
-  -- the tables and the keys of the layout
-  pub is_table : (t : ℕ) → Contains tables t → IsClean (g.view a) → (g.view a).shape t ≡ Table
-  is_table t there clean = All-contains (λ n. (g.view a).shape n ≡ Table) tables t (All-from_recursion _ tables (was.serving.are_tables clean)) there
+-- no table and no key of the layout is the list of objects
+abbrev pub IsUnlisted : {L : Type 0} → Layout L → Type 0
+IsUnlisted l = AllByRecursion (λ t. t ≢ catalog_tree) l.tables × IsApart l.keys
 
-  pub is_served : ((g.view a).is_open ≡ false → IsTrue (g.view a).is_broken) → (k : KeyShape) → Contains keys k → IsClean (g.view a) → Serves k (g.view a)
+module _ {L S : Type 0} (l : Layout L) (g : Ghosts S) (catalog : List Index) (known : List NextRowid) (mode : Bool) (a : S) (was : KeepsTables l g a catalog known mode) where
+  -- the tables and the keys of the layout
+  pub is_table : (t : ℕ) → Contains l.tables t → IsClean (g.view a) → (g.view a).shape t ≡ Table
+  is_table t there clean = All-contains (λ n. (g.view a).shape n ≡ Table) l.tables t (All-from_recursion _ l.tables (was.serving.are_tables clean)) there
+
+  pub is_served : ((g.view a).is_open ≡ false → IsTrue (g.view a).is_broken) → (k : KeyShape) → Contains l.keys k → IsClean (g.view a) → Serves k (g.view a)
   is_served broken k there clean =
-      let found = from_map key_of catalog k (subst (λ ks. Contains ks k) (sym was.listed) there) in
-      let i = found.0 in
       let v = g.view a in
       let it = was.serving in
-      let shaped = All-contains (λ (j : Index). (v.shape j.tree ≡ Ordered j.order) × (v.shape j.table ≡ Table)) catalog i (All-from_recursion _ catalog (it.shaped clean).shaped) found.1 in
+      let shaped = All-contains (λ (j : KeyShape). (v.shape j.tree ≡ Ordered j.order) × (v.shape j.table ≡ Table)) l.keys k
+      (All-from_recursion _ l.keys (subst (AllByRecursion (λ (j : KeyShape). (v.shape j.tree ≡ Ordered j.order) × (v.shape j.table ≡ Table))) was.listed (all-map catalog (it.shaped clean).shaped))) there in
       record {
-        shaped = subst (λ (l : KeyShape). v.shape l.tree ≡ Ordered l.order) found.2 shaped.0;
-        table = subst (λ (l : KeyShape). v.shape l.table ≡ Table) found.2 shaped.1;
-        whole = λ sound. subst (λ (l : KeyShape). IsIndexOf l.columns (v.trees l.table) (v.trees l.tree)) found.2
-            (All-contains (λ (j : Index). IsIndexOf j.columns.now (v.trees j.table) (v.trees j.tree)) catalog i (All-from_recursion _ catalog (it.now (sound_is_open v broken sound))) found.1);
+        shaped = shaped.0;
+        table = shaped.1;
+        whole = λ sound. All-contains (λ (j : KeyShape). IsIndexOf j.columns (v.trees j.table) (v.trees j.tree)) l.keys k (All-from_recursion _ l.keys (it.now (sound_is_open v broken sound)).keyed) there;
       }
+    where
+      all-map : (is : List Index) → AllByRecursion (λ (j : Index). ((g.view a).shape j.tree ≡ Ordered j.order) × ((g.view a).shape j.table ≡ Table)) is
+          → AllByRecursion (λ (j : KeyShape). ((g.view a).shape j.tree ≡ Ordered j.order) × ((g.view a).shape j.table ≡ Table)) (map key_of is)
+      all-map [] h = tt
+      all-map (i ∷ is) h = (h.0, all-map is h.1)
 
   pub is_ready : ((g.view a).is_open ≡ false → IsTrue (g.view a).is_broken) → IsClean (g.view a) → IsReady (g.view a) catalog
-  is_ready broken clean = serving_ready (g.view a) tables catalog known mode was.serving clean broken
+  is_ready broken clean = serving_ready l (g.view a) (g.view a) catalog known mode was.serving was.listed clean broken
 
-  pub keeps_over : (IsTrue (g.view a).is_open → mode ≡ false) → KeepsTables g tables keys a catalog known false
-  keeps_over over = record { serving = serving_over (g.view a) tables catalog known mode was.serving over; listed = was.listed; left = was.left }
+  pub keeps_over : (IsTrue (g.view a).is_open → mode ≡ false) → KeepsTables l g a catalog known false
+  keeps_over over = record { serving = serving_over l (g.view a) catalog known mode was.serving over; listed = was.listed; file = was.file }
 
   module _ (b : S) (shut : (g.view b).is_clean ≡ false → (g.view b).is_open ≡ false) (quiet : IsQuiet g.view g.faults g.recovers g.is_shielded a b) where
     abbrev v : View
@@ -62,72 +74,104 @@ module _ {S : Type 0} (g : Ghosts S) (tables : List ℕ) (keys : List KeyShape) 
     before clean = omega (arith, quiet.clean)
 
     -- a call that is no commit adds nothing to what a crash may leave
-    left_still : IsClean w → AreLeftIndexed (g.recovers b) catalog
-    left_still clean db there = was.left (before clean) db (quiet.outcomes db there)
+    file_still : (IsClean w → w.is_numbered ≡ v.is_numbered) → IsFileOf l g b
+    file_still same = record {
+      numbered = λ clean. same clean ∙ was.file.numbered (before clean);
+      left = λ clean db there. was.file.left (before clean) db (quiet.outcomes db there);
+    }
 
-    pub keeps_undone : (IsClean w → IsRolledBack v w) → KeepsLists v w → KeepsTables g tables keys b catalog [] false
+    pub keeps_undone : (IsClean w → IsRolledBack v w) → KeepsLists v w → KeepsTables l g b catalog [] false
     keeps_undone undone lists = record {
-      serving = serving_undone v w tables catalog known mode was.serving quiet.clean (open_is_clean w shut) undone lists;
+      serving = serving_undone l v w catalog known mode was.serving quiet.clean (open_is_clean w shut) undone lists;
       listed = was.listed;
-      left = left_still;
+      file = file_still (λ _. lists.numbered);
     }
 
-    kept : (later : List NextRowid) (after : Bool) → (IsClean w → IsServing w tables catalog later after) → KeepsTables g tables keys b catalog later after
-    kept later after so = record {
-      serving = serving_if_clean w tables catalog later after (open_is_clean w shut) so;
+    kept : (later : List NextRowid) (after : Bool) → (IsClean w → w.is_numbered ≡ v.is_numbered) → (IsClean w → IsServing l w catalog later after) → KeepsTables l g b catalog later after
+    kept later after same so = record {
+      serving = serving_if_clean l w catalog later after (open_is_clean w shut) so;
       listed = was.listed;
-      left = left_still;
+      file = file_still same;
     }
 
-    pub keeps_read : (IsClean w → OnlyReads v w) → KeepsTables g tables keys b catalog known mode
-    keeps_read same = kept known mode (λ clean. serving_read v w tables catalog known mode was.serving (same clean))
+    pub keeps_read : (IsClean w → OnlyReads v w) → KeepsTables l g b catalog known mode
+    keeps_read same = kept known mode (λ clean. ap (λ (x : View). x.is_numbered) (same clean)) (λ clean. serving_read l v w catalog known mode was.serving (same clean))
 
-    pub keeps_set : (table : ℕ) (rows : List Row) (later : List NextRowid) → IsTrue mode → (IsClean w → IsTrue w.is_open → AreNext w later) → (IsClean w → SetsTable catalog v w table rows) → KeepsTables g tables keys b catalog later mode
-    keeps_set table rows later inside next sets = kept later mode (λ clean. serving_set v w tables catalog known mode was.serving table rows later (λ _. inside) (next clean) (sets clean))
+    pub keeps_marked : IsTrue mode → (IsClean w → Marks v w) → KeepsTables l g b catalog known mode
+    keeps_marked inside done = kept known mode (λ clean. ap (λ (x : View). x.is_numbered) (done clean).is) (λ clean. serving_marked l v w catalog known mode was.serving (before clean) (λ _. inside) (done clean))
+
+    pub keeps_released : IsTrue mode → (IsClean w → Releases v w) → KeepsTables l g b catalog known mode
+    keeps_released inside done = kept known mode (λ clean. ap (λ (x : View). x.is_numbered) (done clean)) (λ clean. serving_released l v w catalog known mode was.serving (before clean) (λ _. inside) (done clean))
+
+    back_numbered : GoesBackOrStays v w → w.is_numbered ≡ v.is_numbered
+    back_numbered done = go v.marks refl
+      where
+        go : (marks : List Snapshot) → v.marks ≡ marks → w.is_numbered ≡ v.is_numbered
+        go [] none = ap (λ (x : View). x.is_numbered) (done.none none)
+        go (m ∷ marks) some = ap (λ (x : View). x.is_numbered) (done.back (λ none. absurd (let e : [] ≡ m ∷ marks = sym none ∙ some in cc))).is
+
+    pub keeps_back : IsTrue mode → (IsClean w → GoesBackOrStays v w) → KeepsTables l g b catalog [] mode
+    keeps_back inside done = kept [] mode (λ clean. back_numbered (done clean)) (λ clean. serving_back_or_still l v w catalog known mode was.serving (before clean) (λ _. inside) (done clean))
+
+    pub keeps_rolled_back : IsRolledBack v w → KeepsTables l g b catalog [] false
+    keeps_rolled_back back = keeps_undone (λ _. back) (lists_of v w back)
 
     -- what is known after one table was written
-    pub next_after : (table : ℕ) (rows : List Row) → SetsTable catalog v w table rows → IsTrue w.is_open → AreNext w (without table known)
+    next_after : (table : ℕ) (rows : List Row) → SetsTable catalog v w table rows → IsTrue w.is_open → AreNext w (without table known)
     next_after table rows sets on =
         next_of_others v w table known (ap (λ (x : View). x.shape) sets.rest) sets.others (was.serving.next (sym (ap (λ (x : View). x.is_open) sets.rest) ∙ on))
 
-    -- a row was added behind the others
-    pub keeps_appended : (table : ℕ) (columns : Row) (id : ℤ) (later : List NextRowid) → Contains tables table → IsTrue mode → Knows table (id +ℤ pos 1) known later → (IsClean w → next_rowid (v.trees table) ≡ id) → (IsClean w → AppendsRow catalog table columns v w)
-        → KeepsTables g tables keys b catalog later mode
-    keeps_appended table columns id later there inside knows next sets =
-        let rows = v.trees table in
-        keeps_set table (rows ++ (Int (next_rowid rows) ∷ columns) ∷ []) later inside
-        (λ clean on. next_known w table (id +ℤ pos 1) known later knows
-        (ap (λ (x : View). x.shape table) (sets clean).rest ∙ is_table table there (before clean))
-        (ap next_rowid (sets clean).this ∙ next_rowid-append rows (next_rowid rows) columns ∙ ap (λ n. n +ℤ pos 1) (next clean))
-        (next_after table _ (sets clean) on))
-        sets
+    -- calls that write, which a table's rows may stand
+    module _ (unlisted : IsUnlisted l) (inside : IsTrue mode) where
+      serving_after : (table : ℕ) (rows : List Row) (later : List NextRowid) → table ≢ catalog_tree → (AllByRecursion (l.is_row table) (v.trees table) → AllByRecursion (l.is_row table) rows)
+          → (IsTrue w.is_open → AreNext w later) → IsClean w → SetsTable catalog v w table rows → IsServing l w catalog later mode
+      serving_after table rows later other good next clean sets =
+          serving_set l v w catalog known mode was.serving was.listed unlisted.1 (before clean) table rows later other good (λ _. inside) next sets
 
-    pub keeps_put : (table : ℕ) (rows : List Row) → IsTrue mode → (IsClean w → SetsTable catalog v w table rows) → KeepsTables g tables keys b catalog (without table known) mode
-    keeps_put table rows inside sets = keeps_set table rows (without table known) inside (λ clean on. next_after table rows (sets clean) on) sets
+      keeps_set : (table : ℕ) (rows : List Row) (later : List NextRowid) → Contains l.tables table → (IsClean v → AllByRecursion (l.is_row table) (v.trees table) → AllByRecursion (l.is_row table) rows)
+          → (IsClean w → IsTrue w.is_open → AreNext w later) → (IsClean w → SetsTable catalog v w table rows) → KeepsTables l g b catalog later mode
+      keeps_set table rows later there good next sets =
+          kept later mode (λ clean. ap (λ (x : View). x.is_numbered) (sets clean).rest) (λ clean. serving_after table rows later (table_apart l.tables table unlisted.0 there) (good (before clean)) (next clean) clean (sets clean))
 
-    pub keeps_set_by_key : (k : KeyShape) (key columns : Row) → IsTrue mode → (IsClean w → SetsKey catalog k key columns v w) → KeepsTables g tables keys b catalog (without k.table known) mode
-    keeps_set_by_key k key columns inside sets = kept (without k.table known) mode (λ clean. go (sets clean))
-      where
-        go : SetsKey catalog k key columns v w → IsServing w tables catalog (without k.table known) mode
-        go (inl none) =
-            serving_next w tables catalog known mode (serving_read v w tables catalog known mode was.serving none.2) (without k.table known)
-            (λ on. next_of_others w w k.table known refl (λ t other table. refl) ((serving_read v w tables catalog known mode was.serving none.2).next on))
-        go (inr found) = serving_set v w tables catalog known mode was.serving k.table _ (without k.table known) (λ _. inside) (next_after k.table _ found.2) found.2
+      -- a row was added behind the others
+      pub keeps_appended : (table : ℕ) (columns : Row) (id : ℤ) (later : List NextRowid) → Contains l.tables table → MayStand l g a table columns → Knows table (id +ℤ pos 1) known later → (IsClean w → next_rowid (v.trees table) ≡ id)
+          → (IsClean w → AppendsRow catalog table columns v w) → KeepsTables l g b catalog later mode
+      keeps_appended table columns id later there stands knows next sets =
+          let rows = v.trees table in
+          keeps_set table (rows ++ (Int (next_rowid rows) ∷ columns) ∷ []) later there (λ honest good. all-after (l.is_row table) rows _ good (stands honest _))
+          (λ clean on. next_known w table (id +ℤ pos 1) known later knows
+          (ap (λ (x : View). x.shape table) (sets clean).rest ∙ is_table table there (before clean))
+          (ap next_rowid (sets clean).this ∙ next_rowid-append rows (next_rowid rows) columns ∙ ap (λ n. n +ℤ pos 1) (next clean))
+          (next_after table _ (sets clean) on))
+          sets
 
-    pub keeps_marked : IsTrue mode → (IsClean w → Marks v w) → KeepsTables g tables keys b catalog known mode
-    keeps_marked inside done = kept known mode (λ clean. serving_marked v w tables catalog known mode was.serving (before clean) (λ _. inside) (done clean))
+      -- a row was put at its rowid
+      pub keeps_put : (table : ℕ) (id : ℤ) (columns : Row) → Contains l.tables table → MayStand l g a table columns → (IsClean w → SetsTable catalog v w table (put_row (Int id ∷ columns) (v.trees table))) → KeepsTables l g b catalog (without table known) mode
+      keeps_put table id columns there stands sets =
+          keeps_set table _ (without table known) there (λ honest good. all-put_row (l.is_row table) (Int id ∷ columns) (v.trees table) (stands honest id) good) (λ clean on. next_after table _ (sets clean) on) sets
 
-    pub keeps_released : IsTrue mode → (IsClean w → Releases v w) → KeepsTables g tables keys b catalog known mode
-    keeps_released inside done = kept known mode (λ clean. serving_released v w tables catalog known mode was.serving (before clean) (λ _. inside) (done clean))
+      -- a row was removed
+      pub keeps_removed : (table : ℕ) (id : ℤ) → Contains l.tables table → (IsClean w → SetsTable catalog v w table (without_rowid id (v.trees table))) → KeepsTables l g b catalog (without table known) mode
+      keeps_removed table id there sets =
+          keeps_set table _ (without table known) there (λ honest good. all-filter (l.is_row table) _ (v.trees table) good) (λ clean on. next_after table _ (sets clean) on) sets
 
-    pub keeps_back : IsTrue mode → (IsClean w → GoesBackOrStays v w) → KeepsTables g tables keys b catalog [] mode
-    keeps_back inside done = kept [] mode (λ clean. serving_back_or_still v w tables catalog known mode was.serving (before clean) (λ _. inside) (done clean))
+      set_numbered : (k : KeyShape) (key columns : Row) → SetsKey catalog k key columns v w → w.is_numbered ≡ v.is_numbered
+      set_numbered k key columns (inl none) = ap (λ (x : View). x.is_numbered) none.2
+      set_numbered k key columns (inr found) = ap (λ (x : View). x.is_numbered) found.2.rest
 
-    pub keeps_rolled_back : IsRolledBack v w → KeepsTables g tables keys b catalog [] false
-    keeps_rolled_back back = keeps_undone (λ _. back) (lists_of v w back)
+      pub keeps_set_by_key : (k : KeyShape) (key columns : Row) → Contains l.keys k → MayStand l g a k.table columns → (IsClean w → SetsKey catalog k key columns v w) → KeepsTables l g b catalog (without k.table known) mode
+      keeps_set_by_key k key columns there stands sets = kept (without k.table known) mode (λ clean. set_numbered k key columns (sets clean)) (λ clean. go clean (sets clean))
+        where
+          go : IsClean w → SetsKey catalog k key columns v w → IsServing l w catalog (without k.table known) mode
+          go clean (inl none) =
+              let still = serving_read l v w catalog known mode was.serving none.2 in
+              serving_next l w catalog known mode still (without k.table known) (λ on. next_of_others w w k.table known refl (λ t other table. refl) (still.next on))
+          go clean (inr found) =
+              serving_after k.table _ (without k.table known) (key_apart l.keys k unlisted.1 there) (λ good. all-put_row (l.is_row k.table) (Int (id_in (rowid found.0)) ∷ columns) (v.trees k.table) (stands (before clean) _) good)
+              (next_after k.table _ found.2) clean found.2
 
   -- a transaction that begins
-  pub keeps_begun : KeepsTables g tables keys a catalog known true
+  pub keeps_begun : KeepsTables l g a catalog known true
   keeps_begun = record {
     serving = record {
       shape = was.serving.shape;
@@ -143,30 +187,39 @@ module _ {S : Type 0} (g : Ghosts S) (tables : List ℕ) (keys : List KeyShape) 
       next = was.serving.next;
     };
     listed = was.listed;
-    left = was.left;
+    file = was.file;
   }
 
   -- a commit, which adds to what a crash may leave what the transaction saw
   module _ (b : S) (shut : (g.view b).is_clean ≡ false → (g.view b).is_open ≡ false) (broken : (g.view a).is_open ≡ false → IsTrue (g.view a).is_broken) (falls : doubt (g.view a).is_clean ≤ doubt (g.view b).is_clean)
-      (crash : (db : Trees) → g.recovers b db → (((g.view a).is_broken ≡ false) × (db ≡ (g.view a).trees)) ⊎ g.recovers a db) where
-    left_committed : IsClean (g.view b) → AreLeftIndexed (g.recovers b) catalog
-    left_committed clean db there = elim (crash db there) [
-      | inl new ↦ subst (IsIndexed catalog) (sym new.1) (was.serving.now (sound_is_open (g.view a) broken new.0))
-      | inr old ↦ was.left (omega arith) db old
-    ]
+      (crash : (db : Trees) → g.recovers b db → (((g.view a).is_broken ≡ false) × (db ≡ (g.view a).trees)) ⊎ g.recovers a db) (whole : IsClean (g.view a) × IsTrue (g.view a).is_open → l.is_whole (g.view a).trees) where
+    sooner : IsClean (g.view b) → IsClean (g.view a)
+    sooner clean = omega (arith, falls)
 
-    pub keeps_committed : (IsClean (g.view b) → Commits (g.view a) (g.view b)) → KeepsTables g tables keys b catalog known false
-    keeps_committed done = record {
-      serving = serving_if_clean (g.view b) tables catalog known false (open_is_clean (g.view b) shut) (λ clean. serving_committed (g.view a) (g.view b) tables catalog known mode was.serving (done clean));
-      listed = was.listed;
-      left = left_committed;
+    file_committed : (IsClean (g.view b) → (g.view b).is_numbered ≡ (g.view a).is_numbered) → IsFileOf l g b
+    file_committed same = record {
+      numbered = λ clean. same clean ∙ was.file.numbered (sooner clean);
+      left = λ clean db there. elim (crash db there) [
+        | inl new ↦
+            let on = sound_is_open (g.view a) broken new.0 in
+            let good : MayBeCommitted l (g.view a).trees = record { consistent = was.serving.now on; whole = whole (sooner clean, on) } in
+            subst (MayBeCommitted l) (sym new.1) good
+        | inr old ↦ was.file.left (sooner clean) db old
+      ];
     }
 
-    pub keeps_uncommitted : IsRolledBack (g.view a) (g.view b) → KeepsTables g tables keys b catalog [] false
-    keeps_uncommitted back = record {
-      serving = serving_undone (g.view a) (g.view b) tables catalog known mode was.serving falls (open_is_clean (g.view b) shut) (λ _. back) (lists_of (g.view a) (g.view b) back);
+    pub keeps_committed : (IsClean (g.view b) → Commits (g.view a) (g.view b)) → KeepsTables l g b catalog known false
+    keeps_committed done = record {
+      serving = serving_if_clean l (g.view b) catalog known false (open_is_clean (g.view b) shut) (λ clean. serving_committed l (g.view a) (g.view b) catalog known mode was.serving (λ on. whole (sooner clean, on)) (done clean));
       listed = was.listed;
-      left = left_committed;
+      file = file_committed (λ clean. ap (λ (x : View). x.is_numbered) (done clean).is);
+    }
+
+    pub keeps_uncommitted : IsRolledBack (g.view a) (g.view b) → KeepsTables l g b catalog [] false
+    keeps_uncommitted back = record {
+      serving = serving_undone l (g.view a) (g.view b) catalog known mode was.serving falls (open_is_clean (g.view b) shut) (λ _. back) (lists_of (g.view a) (g.view b) back);
+      listed = was.listed;
+      file = file_committed (λ _. back.numbered);
     }
 
 all-of-map : {A B : Type 0} (P : B → Type 0) (f : A → B) (xs : List A) → AllByRecursion P (map f xs) → AllByRecursion (λ x. P (f x)) xs
@@ -183,36 +236,25 @@ catalog_of shapes catalog keys listed apart shaped = record {
   shaped = shaped;
 }
 
--- a store whose transaction was undone is as the last commit left it
-pub fresh_after : (v0 v : View) (tables : List ℕ) (catalog : List Index) → IsRolledBack v0 v → IsClean v → IsTrue v.is_open → AllByRecursion (λ t. v.shape t ≡ Table) tables → IsCatalog v.shape catalog → IsFreshFor tables catalog v
-fresh_after v0 v tables catalog back clean on are_tables shaped = let kept = back.kept clean in record {
-  shape = kept.shape ∙ ap (λ b. if b then v0.committed_shape else v0.shape) on ∙ sym back.committed_shape;
-  reals = kept.reals ∙ ap (λ b. if b then v0.committed_reals else v0.reals) on ∙ sym back.committed_reals;
-  are_tables = are_tables;
-  shaped = shaped;
-  committed = (back.undone on).0 ∙ sym (kept.committed on);
-  unmarked = kept.marks on;
-}
+-- the store of a file, once its transaction is undone
+module _ {L S : Type 0} (l : Layout L) (g : Ghosts S) (a b : S) (file : IsFileOf l g a) (undone : IsRolledBack (g.view a) (g.view b)) (quiet : IsQuiet g.view g.faults g.recovers g.is_shielded a b) where
+  earlier : IsClean (g.view b) → IsClean (g.view a)
+  earlier clean = omega (arith, quiet.clean)
 
--- tables over a store after a test of its shapes and keys
-module _ {S : Type 0} (g : Ghosts S) (tables : List ℕ) (keys : List KeyShape) (catalog : List Index) (a back b : S) (undone : IsRolledBack (g.view a) (g.view back)) (quiet : IsQuiet g.view g.faults g.recovers g.is_shielded back b)
-    (broken : (g.view back).is_open ≡ false → IsTrue (g.view back).is_broken) (ready : IsClean (g.view b) → IsReady (g.view back) catalog) (sound : IsClean (g.view b) → (g.view back).is_broken ≡ false) (same : IsClean (g.view b) → OnlyReads (g.view back) (g.view b)) where
-  is_open_back : IsClean (g.view b) → IsTrue (g.view back).is_open
-  is_open_back clean = sound_is_open (g.view back) broken (sound clean)
+  pub file_undone : IsFileOf l g b
+  file_undone = record {
+    numbered = λ clean. undone.numbered ∙ file.numbered (earlier clean);
+    left = λ clean db there. file.left (earlier clean) db (quiet.outcomes db there);
+  }
 
-  pub trees_after : IsClean (g.view b) → (g.view b).trees ≡ (g.view a).committed
-  trees_after clean = ap (λ (x : View). x.trees) (same clean) ∙ (undone.undone (is_open_back clean)).0
+  pub trees_undone : IsClean (g.view b) → IsTrue (g.view b).is_open → ((g.view b).trees ≡ (g.view a).committed) × ((g.view b).trees ≡ (g.view b).committed)
+  trees_undone clean on = ((undone.undone on).0, (undone.undone on).0 ∙ sym ((undone.kept clean).committed on))
 
-  pub keeps_fresh : ((g.view b).is_clean ≡ false → (g.view b).is_open ≡ false) → ((db : Trees) → IsTrue (g.view b).is_open → g.recovers b db → db ≡ (g.view b).committed) → map key_of catalog ≡ keys
-      → AllByRecursion (λ t. (g.view back).shape t ≡ Table) tables → IsCatalog (g.view back).shape catalog → KeepsTables g tables keys b catalog [] false
-  keeps_fresh shut settled listed are_tables shaped =
-      let before = λ (clean : IsClean (g.view b)). let e : IsClean (g.view back) = omega (arith, quiet.clean) in e in
-      let serving = serving_if_clean (g.view b) tables catalog [] false (open_is_clean (g.view b) shut)
-      (λ clean. serving_fresh (g.view back) (g.view b) tables catalog (fresh_after (g.view a) (g.view back) tables catalog undone (before clean) (is_open_back clean) are_tables shaped) (ready clean) (sound clean) (same clean)) in
-      record {
-        serving = serving;
-        listed = listed;
-        left = λ clean db there.
-            let on : IsTrue (g.view b).is_open = ap (λ (x : View). x.is_open) (same clean) ∙ is_open_back clean in
-            subst (IsIndexed catalog) (sym (settled db on there)) (serving.kept on);
-      }
+  pub keeps_fresh : (catalog : List Index) → map key_of catalog ≡ l.keys → ((g.view b).is_clean ≡ false → (g.view b).is_open ≡ false) → (IsClean (g.view b) → IsTrue (g.view b).is_open) → (IsTrue (g.view b).is_open → g.recovers b (g.view b).committed) → HasShapes l catalog (g.view b)
+      → KeepsTables l g b catalog [] false
+  keeps_fresh catalog listed shut on stays fits = record {
+    serving = serving_if_clean l (g.view b) catalog [] false (open_is_clean (g.view b) shut)
+        (λ clean. serving_fresh l (g.view a) (g.view b) catalog undone (on clean) fits (file_undone.left clean _ (stays (on clean))) clean);
+    listed = listed;
+    file = file_undone;
+  }

@@ -1,4 +1,5 @@
 pub mod AppendLemmas
+pub mod ConsistentLemmas
 pub mod EntryLemmas
 pub mod KeepingLemmas
 pub mod NextRowidLemmas

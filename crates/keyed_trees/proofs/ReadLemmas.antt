@@ -10,13 +10,13 @@ use Rattle.sqlite_trees.specs.declared.error.StoreError.{StoreError}
 use Rattle.sqlite_trees.specs.declared.store.Store.{Ghosts}
 use Rattle.sqlite_trees.specs.declared.store.Direction.TheVariants.{Forward}
 use Rattle.sqlite_trees.specs.Tree.{from_key, sought}
-use Rattle.sqlite_trees.specs.View.{View, IsClean, KeepsSchema, IsFailure, IsQuiet, with_cursor}
+use Rattle.sqlite_trees.specs.View.{Finds as IsAt, View, IsClean, KeepsSchema, IsFailure, IsQuiet, with_cursor}
 use Rattle.sqlite_exec.specs.Calls.{OnlyReads}
 use Rattle.sqlite_exec.specs.Loops.{left_of}
 use Rattle.sqlite_exec.specs.Plan.{as_rowid}
 use Rattle.sqlite_exec.proofs.CheckLemmas.{from_no_key, placed}
 use Rattle.sqlite_rules.proofs.ViewLemmas.{still_quiet, reads_again}
-use Rattle.keyed_trees.specs.Rows.{Finds, FindsRow, IsReadOf, columns_of, row_of}
+use Rattle.keyed_trees.specs.Rows.{Finds, FindsAt, FindsRow, IsReadOf, columns_of, row_of}
 use Rattle.keyed_trees.specs.StoreCalls.{ReadsStore}
 
 -- a clause on one outcome, at that outcome
@@ -126,6 +126,12 @@ pub found_read : {R E F : Type 0} (cells : R → Row) (test : Row → Bool) (row
 found_read cells test rows row found (Err e) is there = tt
 found_read cells test rows row found (Ok None) is there = subst (λ f. IfOk f (FindsRow test rows row)) is there
 found_read cells test rows row found (Ok (Some it)) is there = subst (λ r. FindsRow test rows r true) is.1 (subst (λ f. IfOk f (FindsRow test rows row)) is.0 there)
+
+-- so it is of the one row at a rowid
+pub found_read_at : {R E F : Type 0} (cells : R → Row) (id : ℤ) (rows : List Row) (row : Row) (found : Result Bool E) (read : Result (Option (ℤ × R)) F) → IfOk read (IsReadOf cells found row) → IfOk found (IsAt rows id row) → IfOk read (FindsAt cells id rows)
+found_read_at cells id rows row found (Err e) is there = tt
+found_read_at cells id rows row found (Ok None) is there = subst (λ f. IfOk f (IsAt rows id row)) is there
+found_read_at cells id rows row found (Ok (Some it)) is there = subst (λ r. IsAt rows id r true) is.1 (subst (λ f. IfOk f (IsAt rows id row)) is.0 there)
 
 -- a row with a rowid is that and its columns
 pub row_is : (row columns : Row) (id : ℤ) → as_rowid (column row 0) ≡ Some id → columns_of row ≡ columns → row ≡ Int id ∷ columns

@@ -15,6 +15,7 @@ use Rattle.sqlite_sql.specs.declared.query.Index.{Index}
 use Rattle.sqlite_exec.specs.Calls.{SetsTable}
 use Rattle.sqlite_rules.specs.Edit.{id_in}
 use Rattle.sqlite.specs.State.{State, Savepoint, Survives}
+use Rattle.keyed_trees.specs.declared.layout.Layout.{Ghosts as Layout}
 use Rattle.keyed_trees.specs.Calls.{LeavesWritten, LeavesUndone}
 use Rattle.keyed_trees.specs.Effects.{WritesInside, OthersStay, AddsAt, AppendsTo, PutsInto, RemovesFrom, SetsByKey}
 use Rattle.keyed_trees.specs.Frames.{Follows}
@@ -254,9 +255,9 @@ module _ {S : Type 0} (schema : Schema) (g : Ghosts S) (a b : S) (mode : Bool) (
           written (SetsByKey keys k key columns) (λ clean. set_sound k key columns (sets clean)) (λ clean. set_rest k key columns (sets clean)) (λ clean. set_effect k key columns (sets clean))
 
 -- a transaction that is over, or whose store is shut
-pub over : {S : Type 0} (schema : Schema) (g : Ghosts S) (a : S) (mode : Bool) (tables : List ℕ) (keys : List KeyShape) (catalog : List Index) (known : List NextRowid) → KeepsTables g tables keys a catalog known mode → (IsTrue (g.view a).is_open → mode ≡ false)
+pub over : {L S : Type 0} (schema : Schema) (g : Ghosts S) (a : S) (mode : Bool) (l : Layout L) (catalog : List Index) (known : List NextRowid) → KeepsTables l g a catalog known mode → (IsTrue (g.view a).is_open → mode ≡ false)
     → LeavesUndone (state schema g (record { store = a; in_transaction = mode })) (state schema g (record { store = a; in_transaction = false }))
-over schema g a mode tables keys catalog known keeps out = record {
+over schema g a mode l catalog known keeps out = record {
   undone = λ clean. record {
     was_open = λ on. on;
     undone = λ on. (ap (database schema) (keeps.serving.settled on (out on)).0, refl);

@@ -1,6 +1,7 @@
 pub mod Calls
 pub mod Columns
 pub mod Effects
+pub mod Files
 pub mod Frames
 pub mod Kept
 pub mod Layout

@@ -6,6 +6,7 @@ use Rattle.std.specs.Ordering.{is_eq}
 use Rattle.sqlite_value.specs.Order.{Row}
 use Rattle.sqlite_value.specs.declared.value.Value.TheVariants.{Int}
 use Rattle.sqlite_value.specs.Keys.{entry_cmp, prefix_cmp}
+use Rattle.sqlite_trees.specs.Tree.{has_rowid}
 use Rattle.sqlite_trees.specs.declared.store.Direction.{Direction}
 use Rattle.sqlite_trees.specs.declared.store.Direction.TheVariants.{Forward, Backward}
 use Rattle.sqlite_sql.specs.Catalog.{entry_of}
@@ -32,6 +33,11 @@ FindsRow test rows row false = filter test rows ≡ []
 abbrev pub Finds : {R : Type 0} → (R → Row) → (Row → Bool) → List Row → Option (ℤ × R) → Type 0
 Finds cells test rows None = filter test rows ≡ []
 Finds cells test rows (Some it) = FindsRow test rows (row_of cells it) true
+
+-- what was found is the one row at the rowid, or none is there
+abbrev pub FindsAt : {R : Type 0} → (R → Row) → ℤ → List Row → Option (ℤ × R) → Type 0
+FindsAt cells id rows None = filter (has_rowid id) rows ≡ []
+FindsAt cells id rows (Some it) = filter (has_rowid id) rows ≡ row_of cells it ∷ []
 
 -- what was found is read from its row
 abbrev pub IsReadOf : {R E : Type 0} → (R → Row) → Result Bool E → Row → Option (ℤ × R) → Type 0

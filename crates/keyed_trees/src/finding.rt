@@ -1,8 +1,7 @@
 //! One row of a table, by a key or by its rowid.
 
 ghost use Rattle.std.specs.Prelude.{◌≡◌, IfOk, IfSome};
-ghost use Rattle.sqlite_trees.specs.Tree.{has_rowid};
-ghost use Rattle.sqlite_trees.specs.View.{IsClean};
+ghost use Rattle.sqlite_trees.specs.View.{Finds as IsAt, IsClean};
 ghost use Rattle.keyed_trees.specs.Layout.{key_of};
 ghost use Rattle.keyed_trees.specs.Rows.{FindsRow, IsReadOf, has_key};
 ghost use Rattle.keyed_trees.specs.StoreCalls.{FindsEntry, ReadsOrUndoes, ReadsStore, Serves};
@@ -92,7 +91,7 @@ pub(crate) fn find_at<S: Store>(
 ) -> Result<bool, StoreError>
     requires { IsClean (S.Store.view store.old) → (S.Store.view store.old).shape table ≡ Shape.Table }
     ensures found { IfOk result (λ found. IsClean (S.Store.view store.new) →
-        FindsRow (has_rowid id) ((S.Store.view store.old).trees table) row.new found) }
+        IsAt ((S.Store.view store.old).trees table) id row.new found) }
     ensures reads { ReadsOrUndoes S.Store store.old store.new result }
 {
     let outcome = store.get(table, id, row);

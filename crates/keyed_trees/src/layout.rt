@@ -2,7 +2,9 @@
 
 ghost use Rattle.std.specs.Prelude.{◌≡◌, ◌≢◌, ◌++◌, ℕ, List, map, Contains, IfOk, OnOk};
 ghost use Rattle.sqlite_value.specs.Order.{Row as Cells, column};
-ghost use Rattle.sqlite_trees.specs.Tree.{IsAscending};
+ghost use Rattle.std.specs.List.{AllByRecursion};
+ghost use Rattle.sqlite_trees.specs.Objects.{catalog_tree};
+ghost use Rattle.sqlite_trees.specs.Tree.{IsAscending, Trees};
 ghost use Rattle.sqlite_schema.specs.declared.schema.Schema.{Schema};
 ghost use Rattle.sqlite_exec.specs.Plan.{as_rowid};
 ghost use Rattle.keyed_trees.specs.Columns.{unread};
@@ -27,6 +29,15 @@ pub trait Layout {
     /// Every key of the file's tables.
     ghost keys: { List KeyShape };
 
+    /// A row, with its rowid, may stand in the table with this tree.
+    ghost is_row: { ℕ → Cells → Type 0 };
+
+    /// The rows of the list of objects are those of these tables.
+    ghost is_listed: { List Cells → Type 0 };
+
+    /// What more is asked of trees that are committed.
+    ghost is_whole: { Trees → Type 0 };
+
     fn tables() -> &'static [u32]
         ensures { result.now ≡ tables };
 
@@ -35,6 +46,10 @@ pub trait Layout {
 
     /// Each key has a tree of its own.
     ghost apart: { IsAscending (λ one other. one.tree ≢ other.tree) keys };
+
+    /// No table and no key is the list of objects.
+    ghost unlisted: { AllByRecursion (λ t. t ≢ catalog_tree) tables
+        × AllByRecursion (λ k. (k.tree ≢ catalog_tree) × (k.table ≢ catalog_tree)) keys };
 }
 
 /// The rows of one table: the values of their columns, which come after the rowid.

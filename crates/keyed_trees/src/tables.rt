@@ -1,7 +1,8 @@
 //! Tables over a store, in a transaction or outside one.
 
-ghost use Rattle.std.specs.Prelude.{◌≡◌, false, IfErr, IfOk};
+ghost use Rattle.std.specs.Prelude.{◌≡◌, false, IfErr, IfOk, IsTrue};
 ghost use Rattle.sqlite_trees.specs.View.{IsClean, IsQuiet};
+ghost use Rattle.keyed_trees.specs.Files.{IsFileOf};
 
 mod reading;
 mod stages;
@@ -38,30 +39,31 @@ impl<S: Store, L: Layout> Model for Tables<S, L> {
 
     ghost view = { λ t. record { store = t.store; in_transaction = t.in_transaction } };
 
-    ghost invariant = { λ t. KeepsTables S.Store L.Layout.tables L.Layout.keys t.store
-        t.catalog.now t.next t.in_transaction };
+    ghost invariant = { λ t. KeepsTables L.Layout S.Store t.store t.catalog.now t.next
+        t.in_transaction };
 }
 
 impl<S: Store, L: Layout> Tables<S, L> {
-    /// Tables over a store, whose open transaction is undone. The store is given back where a read
-    /// fails, where its trees are not those of the layout, or where a key lacks an entry.
+    /// Tables over a store, whose open transaction is undone. The store is given back where it is
+    /// shut, or where its trees do not have the shapes of the layout.
     pub fn over(alloc: Global, mut store: S) -> Result<Tables<S, L>, S>
+        requires { IsFileOf L.Layout S.Store store }
         ensures trees { IfOk result (λ t. IsClean (S.Store.view t.store) →
             (S.Store.view t.store).trees ≡ (S.Store.view store).committed) }
+        ensures settled { IfOk result (λ t. IsClean (S.Store.view t.store) →
+            (S.Store.view t.store).trees ≡ (S.Store.view t.store).committed) }
+        ensures open { IfOk result (λ t. IsClean (S.Store.view t.store) →
+            IsTrue (S.Store.view t.store).is_open) }
         ensures out { IfOk result (λ t. t.in_transaction ≡ false) }
         ensures quiet { IfOk result (λ t. IsQuiet S.Store.view S.Store.faults S.Store.recovers
             S.Store.is_shielded store t.store) }
         ensures unharmed { IfErr result (λ left. IsQuiet S.Store.view S.Store.faults
             S.Store.recovers S.Store.is_shielded store left) }
+        ensures kept { IfErr result (IsFileOf L.Layout S.Store) }
     {
         store.rollback();
         let catalog = L::catalog();
-        let mut buffers = Buffers::new(alloc);
         if !checking::fits(&store, L::tables(), catalog) {
-            return Err(store);
-        }
-        if !checking::are_ready(&mut store, &mut buffers.work, catalog) {
-            store.rollback();
             return Err(store);
         }
         Ok(Tables {
@@ -70,7 +72,7 @@ impl<S: Store, L: Layout> Tables<S, L> {
             in_transaction: false,
             next: NextRowids::new(alloc),
             alloc,
-            buffers,
+            buffers: Buffers::new(alloc),
             layout: PhantomData,
         })
     }
@@ -92,9 +94,17 @@ impl<S: Store, L: Layout> Tables<S, L> {
 
     /// The store, with what an open transaction has written.
     pub fn into_store(self) -> S
-        ensures { result ≡ self.store }
+        ensures same { result ≡ self.store }
+        ensures file { IsFileOf L.Layout S.Store result }
     {
         let Tables { store, .. } = self;
         store
+    }
+
+    /// A law: the store is that of a file with these tables, after each call.
+    pub fn law_is_file(&self)
+        ensures { IsFileOf L.Layout S.Store self.now.store }
+    {
+        let _ = &self.store;
     }
 }

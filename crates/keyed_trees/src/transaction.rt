@@ -1,16 +1,16 @@
 //! Tables outside a transaction and inside one, as two types, so that only a transaction is written
 //! to.
 
-ghost use Rattle.std.specs.Prelude.{◌≡◌, ◌∷◌, All, IfErr, IfOk, IfSome, OnErr, OnOk, map};
+ghost use Rattle.std.specs.Prelude.{◌≡◌, ◌∷◌, All, IfErr, IfOk, IfSome, IsTrue, OnErr, OnOk, map};
 ghost use Rattle.sqlite.specs.State.{HasCleanDisk, Survives};
-ghost use Rattle.sqlite_trees.specs.Tree.{has_rowid};
 ghost use Rattle.sqlite_trees.specs.View.{IsClean, IsQuiet};
 ghost use Rattle.sqlite_value.specs.declared.value.Value.TheVariants.{Int};
 ghost use Rattle.keyed_trees.specs.Calls.{Reads, Answers, Undoes, Writes};
 ghost use Rattle.keyed_trees.specs.Effects.{AddsAt, AppendsTo, PutsInto, RemovesFrom, SetsByKey};
-ghost use Rattle.keyed_trees.specs.Frames.{Follows, IsKeptOrUndone};
+ghost use Rattle.keyed_trees.specs.Files.{IsFileOf, MayStand};
+ghost use Rattle.keyed_trees.specs.Frames.{Follows, IsKeptOrUndone, Live};
 ghost use Rattle.keyed_trees.specs.Kept.{state};
-ghost use Rattle.keyed_trees.specs.Rows.{Finds, ReadsAll, ReadsRange, has_key, row_of};
+ghost use Rattle.keyed_trees.specs.Rows.{Finds, FindsAt, ReadsAll, ReadsRange, has_key, row_of};
 ghost use Rattle.keyed_trees.specs.Stages.{HasBegun, HasCommitted, HasGoneBack, HasMarked, HasReleased};
 
 use crate::layout::{Key, Layout, Record};
@@ -60,12 +60,16 @@ impl<S: Store, L: Layout> Model for Transaction<S, L> {
 impl<S: Store, L: Layout> Committed<S, L> {
     /// Tables over a store, as `Tables::over` makes them.
     pub fn over(alloc: Global, store: S) -> Result<Committed<S, L>, S>
+        requires { IsFileOf L.Layout S.Store store }
         ensures trees { IfOk result (λ q. IsClean (S.Store.view q.store) →
             (S.Store.view q.store).trees ≡ (S.Store.view store).committed) }
+        ensures open { IfOk result (λ q. IsClean (S.Store.view q.store) →
+            IsTrue (S.Store.view q.store).is_open) }
         ensures quiet { IfOk result (λ q. IsQuiet S.Store.view S.Store.faults S.Store.recovers
             S.Store.is_shielded store q.store) }
         ensures unharmed { IfErr result (λ left. IsQuiet S.Store.view S.Store.faults
             S.Store.recovers S.Store.is_shielded store left) }
+        ensures kept { IfErr result (IsFileOf L.Layout S.Store) }
     {
         match Tables::over(alloc, store) {
             Ok(tables) => Ok(Committed { tables }),
@@ -83,7 +87,8 @@ impl<S: Store, L: Layout> Committed<S, L> {
 
     /// The store, as when a file is to be closed.
     pub fn into_store(self) -> S
-        ensures { result ≡ self.store }
+        ensures same { result ≡ self.store }
+        ensures file { IsFileOf L.Layout S.Store result }
     {
         let Committed { tables } = self;
         tables.into_store()
@@ -117,7 +122,7 @@ impl<S: Store, L: Layout> Committed<S, L> {
 
     /// The row at a rowid, if there is one.
     pub fn find_at<R: Record<L>>(&mut self, id: i64) -> Result<Option<(i64, R)>, StoreError>
-        ensures found { Answers (λ trees found. Finds R.Record.cells (has_rowid id)
+        ensures found { Answers (λ trees found. FindsAt R.Record.cells id
             (trees R.Record.table) found) S.Store self.old self.new result }
         ensures fits { IfOk result (λ found. IfSome found (λ it. R.Record.is_storable it.1)) }
         ensures reads { Reads L.Layout.schema S.Store self.old self.new result }
@@ -169,6 +174,8 @@ impl<S: Store, L: Layout> Committed<S, L> {
 impl<S: Store, L: Layout> Transaction<S, L> {
     /// Commits the transaction. A crash in it leaves what was committed before or what was written.
     pub fn commit(self) -> (Result<(), StoreError>, Committed<S, L>)
+        requires { Live (state L.Layout.schema S.Store self) →
+            L.Layout.is_whole (state L.Layout.schema S.Store self).now.trees }
         ensures ok { HasCleanDisk (state L.Layout.schema S.Store result.1) → OnOk result.0 (HasCommitted
             (state L.Layout.schema S.Store self) (state L.Layout.schema S.Store result.1)) }
         ensures err { HasCleanDisk (state L.Layout.schema S.Store result.1) → OnErr result.0 (IsKeptOrUndone
@@ -203,7 +210,7 @@ impl<S: Store, L: Layout> Transaction<S, L> {
 
     /// The row at a rowid, if there is one.
     pub fn find_at<R: Record<L>>(&mut self, id: i64) -> Result<Option<(i64, R)>, StoreError>
-        ensures found { Answers (λ trees found. Finds R.Record.cells (has_rowid id)
+        ensures found { Answers (λ trees found. FindsAt R.Record.cells id
             (trees R.Record.table) found) S.Store self.old self.new result }
         ensures fits { IfOk result (λ found. IfSome found (λ it. R.Record.is_storable it.1)) }
         ensures reads { Reads L.Layout.schema S.Store self.old self.new result }
@@ -253,7 +260,9 @@ impl<S: Store, L: Layout> Transaction<S, L> {
 
     /// Adds a row after all others of its table.
     pub fn add<R: Record<L>>(&mut self, content: &R) -> Result<(), StoreError>
-        requires { R.Record.is_storable content.now }
+        requires fits { R.Record.is_storable content.now }
+        requires row { MayStand L.Layout S.Store self.old.store R.Record.table
+            (R.Record.cells content.now) }
         ensures { Writes (AppendsTo L.Layout.keys R.Record.table (R.Record.cells content.now))
             L.Layout.schema S.Store self.old self.new result }
     {
@@ -262,7 +271,9 @@ impl<S: Store, L: Layout> Transaction<S, L> {
 
     /// Adds a row at a rowid that no row has. Where one has it the call fails.
     pub fn add_at<R: Record<L>>(&mut self, id: i64, content: &R) -> Result<(), StoreError>
-        requires { R.Record.is_storable content.now }
+        requires fits { R.Record.is_storable content.now }
+        requires row { MayStand L.Layout S.Store self.old.store R.Record.table
+            (R.Record.cells content.now) }
         ensures { Writes (AddsAt L.Layout.keys R.Record.table id (R.Record.cells content.now))
             L.Layout.schema S.Store self.old self.new result }
     {
@@ -271,7 +282,9 @@ impl<S: Store, L: Layout> Transaction<S, L> {
 
     /// Puts a row at a rowid, in place of the one that has it.
     pub fn put<R: Record<L>>(&mut self, id: i64, content: &R) -> Result<(), StoreError>
-        requires { R.Record.is_storable content.now }
+        requires fits { R.Record.is_storable content.now }
+        requires row { MayStand L.Layout S.Store self.old.store R.Record.table
+            (R.Record.cells content.now) }
         ensures { Writes (PutsInto L.Layout.keys R.Record.table (Int id ∷ R.Record.cells content.now))
             L.Layout.schema S.Store self.old self.new result }
     {
@@ -280,7 +293,9 @@ impl<S: Store, L: Layout> Transaction<S, L> {
 
     /// Sets the columns of the row that has the key, if one has.
     pub fn set<K: Key<L>>(&mut self, key: &Row, content: &K::Of) -> Result<(), StoreError>
-        requires { K.Of.Record.is_storable content.now }
+        requires fits { K.Of.Record.is_storable content.now }
+        requires row { MayStand L.Layout S.Store self.old.store K.Key.shape.table
+            (K.Of.Record.cells content.now) }
         ensures { Writes (SetsByKey L.Layout.keys K.Key.shape key.now (K.Of.Record.cells content.now))
             L.Layout.schema S.Store self.old self.new result }
     {

@@ -2,7 +2,7 @@ mod shelves;
 
 use keyed_trees::{Committed, Range, Tables, Transaction};
 use shelves::{
-    ByName, ByPlace, Label, Shelves, Thing, begin, numbers, object, placed, store, things,
+    ByName, ByPlace, Label, Shelves, Thing, begin, numbers, object, placed, store, store_of, things,
 };
 use sqlite_trees::error::StoreError;
 use sqlite_trees::memory::MemStore;
@@ -165,7 +165,7 @@ fn a_write_outside_a_transaction_fails(rt: HostRuntime) -> Result<(), Fail> {
 #[test]
 fn a_store_with_other_trees_is_refused(rt: HostRuntime) -> Result<(), Fail> {
     let alloc = rt.alloc();
-    let other = MemStore::new(
+    let other = store_of(
         alloc,
         &[object(
             "thing",

@@ -4,8 +4,6 @@
 mod entries;
 mod handing;
 mod history;
-#[cfg(test)]
-mod tests;
 
 pub use entries::{first_entries_from, first_entries_until};
 pub use history::TenantAccount;

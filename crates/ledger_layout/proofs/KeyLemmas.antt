@@ -10,8 +10,8 @@ use Rattle.sqlite_value.specs.Keys.{by_key}
 use Rattle.sqlite_value.proofs.KeyLemmas.{first_key-plain}
 use Rattle.sqlite_value.proofs.OrderLemmas.{value_cmp-Int, value_cmp-Text, value_cmp-Blob, value_cmp-apart}
 use Rattle.sqlite_trees.specs.Tree.{Trees, rowid, has_rowid}
-use Rattle.sqlite_trees.proofs.ListLemmas.{filter-map, filter_same, all_of}
-use Rattle.keyed_trees.specs.Rows.{Finds, has_key, row_of}
+use Rattle.sqlite_trees.proofs.ListLemmas.{filter-map, filter_same, all_of, IsPermutation-same}
+use Rattle.keyed_trees.specs.Rows.{Finds, FindsAt, has_key, row_of}
 use Rattle.ledger_sql.specs.Effects.{Picks}
 use Rattle.ledger_sql.specs.TableRows.{is_int, is_blob, is_text, is_own, cells_from, rows_in, has_id, with_id}
 use Rattle.ledger_layout.specs.Keys.{by_id, by_name, by_digest}
@@ -107,3 +107,8 @@ picks_seen cells p q seen rows same (Some it) found = (
   map seen found.0,
   subst (λ xs. IsPermutation (map seen xs) (seen (row_of cells it) ∷ map seen found.0)) (filter_same p q rows (all_of _ same rows)) (IsPermutation-map seen _ _ found.1),
 )
+
+-- the one row at a rowid is one that has it
+pub found_at : {R : Type 0} (cells : R → Row) (id : ℤ) (rows : List Row) (found : Option (ℤ × R)) → FindsAt cells id rows found → Finds cells (has_rowid id) rows found
+found_at cells id rows None it = it
+found_at cells id rows (Some row) it = ([], IsPermutation-same _ _ it)

@@ -1,3 +1,4 @@
 pub mod Causes
 pub mod FileRows
 pub mod Keys
+pub mod Tables

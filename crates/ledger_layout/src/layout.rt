@@ -12,7 +12,9 @@ pub struct LedgerLayout;
 impl Layout for LedgerLayout {
     ghost use Rattle.std.proofs.Common.{rules};
     ghost use Rattle.ledger_sql.specs.Schema.{ledger_schema};
+    ghost use Rattle.ledger_rules.specs.Whole.{IsWhole};
     ghost use Rattle.ledger_layout.specs.Keys.{ledger_keys, ledger_tables};
+    ghost use Rattle.ledger_layout.specs.Tables.{FitsTree, ListsLedger};
 
     ghost schema = { ledger_schema };
 
@@ -20,7 +22,15 @@ impl Layout for LedgerLayout {
 
     ghost keys = { ledger_keys };
 
+    ghost is_row = { FitsTree };
+
+    ghost is_listed = { ListsLedger };
+
+    ghost is_whole = { IsWhole };
+
     ghost apart = { Prim.search rules };
+
+    ghost unlisted = { Prim.search rules };
 
     fn tables() -> &'static [u32] {
         &[

@@ -9,6 +9,7 @@ mod key_values;
 mod keys;
 mod kind;
 mod kinds;
+mod laws;
 mod layout;
 
 pub use causes::cause;
@@ -20,4 +21,5 @@ pub use key_values::{
 pub use keys::{ByDigest, ByEntry, ById, ByName, ByTime};
 pub use kind::{Identified, Kind, TenantRow, Timed};
 pub use kinds::FailedCells;
+pub use laws::law_committed_trees_are_sound;
 pub use layout::LedgerLayout;

@@ -1,20 +1,22 @@
 -- From rows that were read to the answers of the calls.
-use Rattle.std.proofs.Common.{◌≡◌, ◌+◌, ℕ, ℤ, Bool, List, [], ◌∷◌, filter, get_or, map, refl, sym, ap, subst, ◌∙◌, All, IsPermutation, IsSorted, Ordering, Result, Ok, Err, IfOk, is_lt, string_bytes}
-use Rattle.std.specs.Ordering.{int_cmp, int_eq, ordering_then}
+use Rattle.std.proofs.Common.{◌≡◌, ◌+◌, ℕ, ℤ, Bool, List, [], ◌∷◌, filter, get_or, map, Option, Some, None, refl, sym, ap, subst, ◌∙◌, All, IsPermutation, IsSorted, Ordering, Result, Ok, Err, IfOk, is_lt, string_bytes}
+use Rattle.std.specs.Ordering.{int_cmp, ordering_then}
 use Rattle.std.proofs.lemmas.List.Sorted.{IsPermutation-map}
 use Rattle.sqlite_value.specs.declared.value.Value.TheVariants.{Blob, Int}
 use Rattle.sqlite_value.specs.Order.{Row, column, row_cmp, value_cmp}
 use Rattle.sqlite_value.proofs.OrderLemmas.{then-Equal, value_cmp-Blob, value_cmp-Int}
-use Rattle.sqlite_trees.specs.Tree.{Trees}
-use Rattle.sqlite_trees.proofs.ListLemmas.{filter-map, IsPermutation-same, map-map}
+use Rattle.sqlite_trees.specs.Tree.{Trees, has_rowid}
+use Rattle.sqlite_trees.proofs.ListLemmas.{all_of, filter_same, IsPermutation-same, map-map}
 use Rattle.sqlite_schema.specs.declared.schema.Schema.{Schema}
 use Rattle.sqlite.specs.State.{State, HasCleanDisk}
 use Rattle.keyed_trees.specs.Calls as call
-use Rattle.keyed_trees.specs.Rows.{row_of}
+use Rattle.keyed_trees.specs.Rows.{FindsAt, row_of}
 use Rattle.rows.specs.declared.all_rows.DirectoryRow.{DirectoryRow}
+use Rattle.ledger_layout.specs.declared.file_rows.ClockRow.{ClockRow}
 use Rattle.ledger_layout.specs.declared.file_rows.TenantEntry.{TenantEntry}
 use Rattle.ledger_layout.specs.FileRows.{clock_columns, tenant_columns, version_columns}
 use Rattle.ledger_layout.proofs.FrameLemmas.{follows}
+use Rattle.ledger_layout.proofs.KeyLemmas.{numbered}
 use Rattle.ledger_sql.specs.Calls.{LeavesFound, LeavesListed, LeavesRead}
 use Rattle.ledger_sql.specs.Entries.{ReadsUpTo}
 use Rattle.ledger_sql.specs.Reading.{ReadsRows, clock_cmp, directory_cmp, id_cmp}
@@ -22,7 +24,7 @@ use Rattle.ledger_sql.specs.Schema.{clock_tree, schema_tree, tenant_tree}
 use Rattle.ledger_sql.specs.TableRows.{cells_from, clock_rows, directory_rows, is_int, version_rows}
 use Rattle.ledger_sql.specs.Values.{clock_values, directory_values, version_values}
 use Rattle.ledger_spans.proofs.ListLemmas.{sorted_map}
-use Rattle.ledger_spans.specs.Listing.{entry_of}
+use Rattle.ledger_spans.specs.Listing.{clocks_in, entry_of}
 
 -- a call that only read, whatever is made of its answer
 pub read_after : {A B E F : Type 0} (old new : State) (x : A) (r : Result B F) → call.LeavesRead {A = A} {E = E} old new (Ok x) → LeavesRead old new r
@@ -88,18 +90,24 @@ pub versions : {V : Type 0} (version : V → ℤ) (trees : Trees) (rows : List (
 versions version trees rows read is taken =
     IsPermutation-same _ _ (ap (map (λ (row : Row). column row 2 ∷ [])) (sym is) ∙ map-map (λ (row : Row). column row 2 ∷ []) (row_of (λ v. version_columns (version v))) rows ∙ sym (ap (map version_values) taken ∙ map-map version_values (λ row. version row.1) rows))
 
-pub clocks : {V : Type 0} (clock : V → ℤ) (tenant : ℤ) (trees : Trees) (rows : List (ℤ × V)) (read : List ℤ) → map (row_of (λ v. clock_columns (clock v))) rows ≡ trees clock_tree → read ≡ map (λ row. clock row.1) (filter (λ row. int_eq row.0 tenant) rows)
-    → ReadsRows clock_values clock_cmp (clock_rows tenant trees) read
-clocks clock tenant trees rows read is taken =
-    let shown = row_of (λ v. clock_columns (clock v)) in
-    let own : Row → Bool = λ row. is_int tenant (column row 0) in
-    let seen : Row → Row = λ row. column row 2 ∷ [] in
-    record {
-      all = IsPermutation-same _ _
-          (ap (λ rs. map seen (filter own rs)) (sym is) ∙ ap (map seen) (filter-map own shown rows) ∙ map-map seen shown (filter (λ row. int_eq row.0 tenant) rows)
-          ∙ sym (ap (map clock_values) taken ∙ map-map clock_values (λ row. clock row.1) (filter (λ row. int_eq row.0 tenant) rows)));
-      order = λ k d low high. refl;
-    }
+pub clocks : (tenant : ℤ) (trees : Trees) (found : Option (ℤ × ClockRow)) (read : List ℤ) → FindsAt (λ (row : ClockRow). clock_columns row.clock) tenant (trees clock_tree) found → read ≡ clocks_in found → ReadsRows clock_values clock_cmp (clock_rows tenant trees) read
+clocks tenant trees found read there taken = record {
+  all = subst (λ xs. IsPermutation (clock_rows tenant trees) (map clock_values xs)) (sym taken) (IsPermutation-same _ _ (is found there));
+  order = λ k d low high. refl;
+}
+  where
+    seen : Row → Row
+    seen row = column row 2 ∷ []
+
+    own : Row → Bool
+    own row = is_int tenant (column row 0)
+
+    rows : clock_rows tenant trees ≡ map seen (filter (has_rowid tenant) (trees clock_tree))
+    rows = ap (map seen) (sym (filter_same (has_rowid tenant) own (trees clock_tree) (all_of _ (numbered tenant) (trees clock_tree))))
+
+    is : (it : Option (ℤ × ClockRow)) → FindsAt (λ (row : ClockRow). clock_columns row.clock) tenant (trees clock_tree) it → clock_rows tenant trees ≡ map clock_values (clocks_in it)
+    is None none = rows ∙ ap (map seen) none
+    is (Some it) one = rows ∙ ap (map seen) one
 
 pub directory_read : (trees : Trees) (entries : List (ℤ × TenantEntry)) (rows : List DirectoryRow) → map (row_of (λ (e : TenantEntry). tenant_columns (string_bytes e.name) e.digest)) entries ≡ trees tenant_tree → IsPermutation entries (map entry_of rows)
     → IsSorted directory_cmp rows → ReadsRows (λ (row : DirectoryRow). directory_values row.number (string_bytes row.name) row.digest) directory_cmp (directory_rows trees) rows

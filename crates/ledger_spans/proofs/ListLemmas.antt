@@ -1,8 +1,7 @@
 -- Lists that pass a test, and lists in order.
-use Rattle.std.proofs.Common.{◌≡◌, ◌+◌, ◌<◌, Bool, true, false, cond, List, [], ◌∷◌, ◌++◌, filter, get_or, length, map, refl, sym, ap, ◌∙◌, arith, IsSorted, Ordering, is_lt}
+use Rattle.std.proofs.Common.{◌≡◌, ◌+◌, ◌<◌, Bool, true, false, cond, List, [], ◌∷◌, filter, get_or, length, map, refl, sym, ap, ◌∙◌, arith, IsSorted, Ordering, is_lt}
 use Rattle.std.specs.List.{AllByRecursion}
-use Rattle.std.proofs.lemmas.List.{get_or-map, length-map, map-append}
-use Rattle.std.proofs.lemmas.List.Elements.{filter-append}
+use Rattle.std.proofs.lemmas.List.{get_or-map, length-map}
 
 pub passing : {A : Type 0} (p : A → Bool) (xs : List A) → AllByRecursion (λ x. p x ≡ true) (filter p xs)
 passing p [] = tt
@@ -20,7 +19,3 @@ sorted_map cmp f [] sorted k d low high = absurd (omega arith)
 sorted_map cmp f (x ∷ xs) sorted k d low high =
     let few : k + 1 < length (x ∷ xs) = rw length-map at high in
     ap is_lt (λ i. cmp (get_or-map f (x ∷ xs) (k + 1) x d few i) (get_or-map f (x ∷ xs) k x d (omega (arith, few)) i)) ∙ sorted k x low few
-
--- one more row was taken, if it passes
-pub taken_more : {A B : Type 0} (f : A → B) (p : A → Bool) (xs : List A) (x : A) (was now : List B) → was ≡ map f (filter p xs) → now ≡ was ++ map f (filter p (x ∷ [])) → now ≡ map f (filter p (xs ++ x ∷ []))
-taken_more f p xs x was now before step = step ∙ ap (λ ys. ys ++ map f (filter p (x ∷ []))) before ∙ sym (ap (map f) (filter-append p xs (x ∷ [])) ∙ map-append f (filter p xs) (filter p (x ∷ [])))

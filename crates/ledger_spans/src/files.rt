@@ -1,13 +1,13 @@
 //! The versions that a file names, and a tenant's clock.
 
-ghost use Rattle.std.specs.Prelude.{◌≡◌, [], ◌∷◌, ◌++◌, IfOk, IsPermutation, OnOk, filter, map};
-ghost use Rattle.std.specs.Ordering.{int_eq};
+ghost use Rattle.std.specs.Prelude.{◌≡◌, IfOk, IsPermutation, map};
 ghost use Rattle.keyed_trees.specs.Kept.{state};
 ghost use Rattle.ledger_sql.specs.Calls.{LeavesListed};
 ghost use Rattle.ledger_sql.specs.Reading.{ReadsRows, clock_cmp};
 ghost use Rattle.ledger_sql.specs.Schema.{after_schema, ledger_schema, list_schema};
 ghost use Rattle.ledger_sql.specs.TableRows.{clock_rows, version_rows};
 ghost use Rattle.ledger_sql.specs.Values.{clock_values, version_values};
+ghost use Rattle.ledger_spans.specs.Listing.{clocks_in};
 
 use keyed_trees::Tables;
 use ledger_layout::{ClockRow, LedgerLayout, VersionRow, cause};
@@ -43,8 +43,7 @@ fn versions_of(alloc: Global, rows: &[(i64, VersionRow)]) -> Result<Vec<i64>, Un
     Ok(versions)
 }
 
-/// A tenant's clock, as the file has it, in nanoseconds: one, where the file is sound. All clocks of
-/// the file are read.
+/// A tenant's clock, as the file has it, in nanoseconds: one, or none where the tenant has none.
 pub fn list_clocks<S: Store>(
     alloc: Global,
     tables: &mut Tables<S, LedgerLayout>,
@@ -54,37 +53,21 @@ pub fn list_clocks<S: Store>(
         (clock_rows tenant trees) read.items)
         (state ledger_schema S.Store tables.old) (state ledger_schema S.Store tables.new) result }
 {
-    let rows = match tables.rows::<ClockRow>() {
-        Ok(rows) => rows,
+    let found = match tables.find_at::<ClockRow>(tenant) {
+        Ok(found) => found,
         Err(error) => return Err(TableFault::Unavailable(cause(error))),
     };
-    let clocks = clocks_of(alloc, rows, tenant)?;
+    let clocks = clock_of(alloc, found)?;
     Ok(clocks)
 }
 
-/// The clocks that stand at this tenant's number.
-fn clocks_of(
-    alloc: Global,
-    rows: Vec<(i64, ClockRow)>,
-    tenant: i64,
-) -> Result<Vec<i64>, Unavailable>
-    ensures { IfOk result (λ clocks. clocks.items
-        ≡ map (λ row. row.1.clock) (filter (λ row. int_eq row.0 tenant) rows.items)) }
+/// The clock that was found, or none.
+fn clock_of(alloc: Global, found: Option<(i64, ClockRow)>) -> Result<Vec<i64>, Unavailable>
+    ensures { IfOk result (λ clocks. clocks.items ≡ clocks_in found) }
 {
     let mut clocks = Vec::new(alloc);
-    for row in rows {
-        push_own(&mut clocks, &row, tenant)?;
+    if let Some((_, row)) = found {
+        clocks.push(row.clock)?;
     }
     Ok(clocks)
-}
-
-fn push_own(clocks: &mut Vec<i64>, row: &(i64, ClockRow), tenant: i64) -> Result<(), Unavailable>
-    ensures { OnOk result (clocks.new.items ≡ clocks.old.items
-        ++ map (λ row. row.1.clock) (filter (λ row. int_eq row.0 tenant) (row.now ∷ []))) }
-{
-    if row.0 != tenant {
-        return Ok(());
-    }
-    clocks.push(row.1.clock)?;
-    Ok(())
 }

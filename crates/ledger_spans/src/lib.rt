@@ -14,6 +14,3 @@ pub use files::{list_clocks, list_versions};
 pub use history::list_history;
 pub use spans::{newest_accounts, newest_transfers, oldest_accounts, oldest_transfers};
 pub use tenants::directory;
-
-#[cfg(test)]
-mod tests;

@@ -1,8 +1,8 @@
 -- What a call does to the directory and to the clocks, whose rowids are the tenants' numbers.
-use Rattle.std.proofs.Common.{◌≡◌, ℕ, zero, suc, ℤ, Bool, true, false, not, cond, List, [], ◌∷◌, map, filter, refl, sym, ap, subst, ◌∙◌, arith, ◌≤◌, get_or, Contains, IsPermutation, IsTrue}
+use Rattle.std.proofs.Common.{◌≡◌, ℕ, ℤ, Bool, true, false, not, cond, List, [], ◌∷◌, map, filter, refl, sym, ap, subst, ◌∙◌, IsPermutation, IsTrue}
 use Rattle.std.specs.List.{AllByRecursion}
 use Rattle.std.proofs.lemmas.Bool.Decides.{Decides-int_eq}
-use Rattle.std.proofs.lemmas.List.Sorted.{IsPermutation-map, IsPermutation-sym, Contains-permutation}
+use Rattle.std.proofs.lemmas.List.Sorted.{IsPermutation-map}
 use Rattle.sqlite_value.specs.declared.value.Value.{Value}
 use Rattle.sqlite_value.specs.declared.value.Value.TheVariants.{Int, Text, Blob}
 use Rattle.sqlite_value.specs.Order.{Row, column}
@@ -13,7 +13,6 @@ use Rattle.sqlite_rules.specs.Edit.{id_in}
 use Rattle.sqlite_rules.proofs.TableLemmas.{int_is}
 use Rattle.sqlite.specs.State.{State}
 use Rattle.keyed_trees.specs.Effects as effect
-use Rattle.keyed_trees.specs.Rows.{FindsRow}
 use Rattle.ledger_sql.specs.Effects.{AddsFileRow, AddsRows, SetsDigest, SetsOne, WritesInside}
 use Rattle.ledger_sql.specs.Rowids.{IsNumbered}
 use Rattle.ledger_sql.specs.Schema.{ledger_schema, clock_tree, tenant_tree}
@@ -44,17 +43,6 @@ none_both p (x ∷ xs) = at (p x) refl (none_both p xs)
     at false is more =
         ap (λ b. filter p (cond (not b) (x ∷ filter (λ x. not (p x)) xs) (filter (λ x. not (p x)) xs))) is
         ∙ ap (λ b. cond b (x ∷ filter p (filter (λ x. not (p x)) xs)) (filter p (filter (λ x. not (p x)) xs))) is ∙ more
-
-only_one : (x y : Row) → Contains (x ∷ []) y → x ≡ y
-only_one x y there = go there.0 there.1 there.2
-  where
-    go : (k : ℕ) → suc k ≤ 1 → get_or (x ∷ []) k y ≡ y → x ≡ y
-    go zero within is = is
-    go (suc k) within is = absurd (omega arith)
-
--- a list of one row is no other row's
-the_one : (x y : Row) (rest : List Row) → IsPermutation (x ∷ []) (y ∷ rest) → x ≡ y
-the_one x y rest same = only_one x y (Contains-permutation (y ∷ rest) (x ∷ []) y (IsPermutation-sym _ _ same) (zero, omega arith, refl))
 
 -- a value that is this number
 number_is : (n : ℤ) (v : Value) → IsTrue (is_number v) → is_int n v ≡ true → v ≡ Int n
@@ -141,7 +129,7 @@ module _ (old new : State) (ledger : old.now.schema ≡ ledger_schema) where
       own r = is_int tenant (column r 0)
 
   -- where one row of the directory has the number, what was found is that row
-  pub sets_digest : (number id : ℤ) (name earlier digest : List ℕ) → FindsRow (has_rowid number) tenants (Int id ∷ tenant_columns name earlier) true
+  pub sets_digest : (number id : ℤ) (name earlier digest : List ℕ) → filter (has_rowid number) tenants ≡ (Int id ∷ tenant_columns name earlier) ∷ []
       → effect.PutsInto ledger_keys tenant_tree (Int number ∷ tenant_columns name digest) old new → SetsDigest number digest old new
   sets_digest number id name earlier digest there it = record {
     inside = inside old new it.inside;
@@ -149,7 +137,7 @@ module _ (old new : State) (ledger : old.now.schema ≡ ledger_schema) where
         let found = one_mapped seen (filter own tenants) (directory_values number its_name its_digest) (sym (filter-map own seen tenants) ∙ single) in
         let was = found.0 in
         let at = at_number number was tenants whole found.1 in
-        let same_row : was ≡ Int id ∷ tenant_columns name earlier = the_one was (Int id ∷ tenant_columns name earlier) there.0 (subst (λ xs. IsPermutation xs ((Int id ∷ tenant_columns name earlier) ∷ there.0)) at.1 there.1) in
+        let same_row : was ≡ Int id ∷ tenant_columns name earlier = let e : was ∷ [] ≡ (Int id ∷ tenant_columns name earlier) ∷ [] = sym at.1 ∙ there in cc in
         let shown : Int id ∷ Text name ∷ Blob earlier ∷ [] ≡ directory_values number its_name its_digest = ap seen (sym same_row) ∙ found.2 in
         let name_is : name ≡ its_name = cc in
         let moved = IsPermutation-map seen _ _ (replaced own was later at.0 tenants whole.rise found.1) in

@@ -4,7 +4,7 @@ use Rattle.sqlite_value.specs.declared.value.Value.TheVariants.{Int, Text, Blob}
 use Rattle.sqlite_value.specs.Order.{Row, column}
 use Rattle.sqlite_trees.specs.Tree.{Trees, has_rowid}
 use Rattle.sqlite_trees.proofs.ListLemmas.{filter-map}
-use Rattle.keyed_trees.specs.Rows.{Finds, has_key}
+use Rattle.keyed_trees.specs.Rows.{Finds, FindsAt, has_key}
 use Rattle.rows.specs.declared.all_rows.DirectoryRow.{DirectoryRow}
 use Rattle.ledger_sql.specs.Effects.{Picks}
 use Rattle.ledger_sql.specs.Schema.{clock_tree, tenant_tree}
@@ -14,7 +14,7 @@ use Rattle.ledger_layout.specs.FileRows.{clock_columns, tenant_columns}
 use Rattle.ledger_layout.specs.Keys.{by_digest, by_name}
 use Rattle.ledger_layout.specs.declared.file_rows.ClockRow.{ClockRow}
 use Rattle.ledger_layout.specs.declared.file_rows.TenantEntry.{TenantEntry}
-use Rattle.ledger_layout.proofs.KeyLemmas.{digested, named, numbered, picks_seen}
+use Rattle.ledger_layout.proofs.KeyLemmas.{digested, found_at, named, numbered, picks_seen}
 
 abbrev columns_of : TenantEntry → Row
 columns_of entry = tenant_columns (string_bytes entry.name) entry.digest
@@ -47,11 +47,11 @@ pub picks_named : (name : List ℕ) (trees : Trees) (found : Option (ℤ × Tena
     → Picks (with_name name (directory_rows trees)) (option_map values_of (option_map row_of found))
 picks_named name trees found it = picks_shown (has_key by_name (Text name ∷ [])) (λ row. is_text name (column row 1)) (trees tenant_tree) (named name) found it
 
-pub picks_numbered : (number : ℤ) (trees : Trees) (found : Option (ℤ × TenantEntry)) → Finds columns_of (has_rowid number) (trees tenant_tree) found
+pub picks_numbered : (number : ℤ) (trees : Trees) (found : Option (ℤ × TenantEntry)) → FindsAt columns_of number (trees tenant_tree) found
     → Picks (filter (λ row. is_int number (column row 0)) (directory_rows trees)) (option_map values_of (option_map row_of found))
-picks_numbered number trees found it = picks_shown (has_rowid number) (λ row. is_int number (column row 0)) (trees tenant_tree) (numbered number) found it
+picks_numbered number trees found it = picks_shown (has_rowid number) (λ row. is_int number (column row 0)) (trees tenant_tree) (numbered number) found (found_at columns_of number (trees tenant_tree) found it)
 
-pub picks_clock : (tenant : ℤ) (trees : Trees) (found : Option (ℤ × ClockRow)) → Finds (λ (row : ClockRow). clock_columns row.clock) (has_rowid tenant) (trees clock_tree) found
+pub picks_clock : (tenant : ℤ) (trees : Trees) (found : Option (ℤ × ClockRow)) → FindsAt (λ (row : ClockRow). clock_columns row.clock) tenant (trees clock_tree) found
     → Picks (clock_rows tenant trees) (option_map clock_values (option_map (λ it. it.1.clock) found))
-picks_clock tenant trees None it = picks_seen (λ (row : ClockRow). clock_columns row.clock) (has_rowid tenant) (λ r. is_int tenant (column r 0)) (cells_from 2 1) (trees clock_tree) (numbered tenant) None it
-picks_clock tenant trees (Some e) it = picks_seen (λ (row : ClockRow). clock_columns row.clock) (has_rowid tenant) (λ r. is_int tenant (column r 0)) (cells_from 2 1) (trees clock_tree) (numbered tenant) (Some e) it
+picks_clock tenant trees None it = picks_seen (λ (row : ClockRow). clock_columns row.clock) (has_rowid tenant) (λ r. is_int tenant (column r 0)) (cells_from 2 1) (trees clock_tree) (numbered tenant) None (found_at (λ (row : ClockRow). clock_columns row.clock) tenant (trees clock_tree) None it)
+picks_clock tenant trees (Some e) it = picks_seen (λ (row : ClockRow). clock_columns row.clock) (has_rowid tenant) (λ r. is_int tenant (column r 0)) (cells_from 2 1) (trees clock_tree) (numbered tenant) (Some e) (found_at (λ (row : ClockRow). clock_columns row.clock) tenant (trees clock_tree) (Some e) it)

@@ -1,6 +1,7 @@
 mod EffectLemmas
 mod FileLemmas
 mod FindLemmas
+mod FitLemmas
 mod NextLemmas
 mod PutLemmas
 mod RowLemmas

@@ -13,6 +13,7 @@ ghost use Rattle.ledger_sql.specs.Values.{account_values};
 ghost use Rattle.ledger_tables.specs.Calls.{LeavesRowFound};
 
 use crate::ledger_trees::LedgerTrees;
+use ledger_rules::laws::law_ledger_rows_fit;
 use records::{Account, Unavailable};
 use rows::AccountCells;
 use sqlite_trees::store::Store;
@@ -47,5 +48,6 @@ pub(crate) fn add<S: Store>(
         (account_values (account_cells account.now) ∷ []))
         (state ledger_schema S.Store trees.old) (state ledger_schema S.Store trees.new) result }
 {
+    law_ledger_rows_fit();
     trees.add_row(tenant, AccountCells::from_account(account))
 }

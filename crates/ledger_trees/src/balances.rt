@@ -13,6 +13,7 @@ ghost use Rattle.ledger_sql.specs.Values.{balance_values};
 ghost use Rattle.ledger_tables.specs.Calls.{LeavesRowFound};
 
 use crate::ledger_trees::LedgerTrees;
+use ledger_rules::laws::law_ledger_rows_fit;
 use records::Unavailable;
 use rows::{BalanceCells, BalanceRow};
 use sqlite_trees::store::Store;
@@ -43,6 +44,7 @@ pub(crate) fn add<S: Store>(
         (balance_values (balance_cells row.now) ∷ []))
         (state ledger_schema S.Store trees.old) (state ledger_schema S.Store trees.new) result }
 {
+    law_ledger_rows_fit();
     trees.add_row(tenant, BalanceCells::from_row(row))
 }
 
@@ -56,5 +58,6 @@ pub(crate) fn set<S: Store>(
         (has_id (column_of row.now.account)) (balance_values (balance_cells row.now)))
         (state ledger_schema S.Store trees.old) (state ledger_schema S.Store trees.new) result }
 {
+    law_ledger_rows_fit();
     trees.set_row(tenant, row.account, BalanceCells::from_row(row))
 }

@@ -2,11 +2,13 @@
 
 ghost use Rattle.std.specs.Prelude.{◌≡◌, [], ◌∷◌, option_map, suc};
 ghost use Rattle.amount.specs.Column.{column_of};
+ghost use Rattle.sqlite_value.specs.declared.value.Value.TheVariants.{Int};
 ghost use Rattle.keyed_trees.specs.Kept.{state};
 ghost use Rattle.ledger_sql.specs.Calls.{AnyWidth, LeavesWritten};
 ghost use Rattle.ledger_sql.specs.Effects.{AddsRows, SetsOne};
 ghost use Rattle.ledger_sql.specs.Schema.{ledger_schema};
 ghost use Rattle.ledger_sql.specs.TableRows.{has_id, rows_in, with_id};
+ghost use Rattle.ledger_layout.specs.Tables.{FitsAt};
 ghost use Rattle.ledger_tables.specs.Calls.{LeavesRowFound};
 
 use crate::ledger_trees::LedgerTrees;
@@ -38,6 +40,7 @@ impl<S: Store> LedgerTrees<S> {
 
     /// Adds a row to a tenant's.
     pub(crate) fn add_row<C: Kind>(&mut self, tenant: i64, cells: C) -> Result<(), Unavailable>
+        requires { FitsAt C.table (Int tenant ∷ C.values cells) }
         ensures { LeavesWritten (AddsRows (rows_in C.table (suc C.others)) C.table tenant
             (C.values cells ∷ []))
             (state ledger_schema S.Store self.old) (state ledger_schema S.Store self.new) result }
@@ -55,6 +58,7 @@ impl<S: Store> LedgerTrees<S> {
         id: u128,
         cells: C,
     ) -> Result<(), Unavailable>
+        requires { FitsAt C.table (Int tenant ∷ C.values cells) }
         ensures { LeavesWritten (SetsOne (rows_in C.table (suc C.others)) C.table tenant
             (has_id (column_of id)) (C.values cells))
             (state ledger_schema S.Store self.old) (state ledger_schema S.Store self.new) result }

@@ -11,6 +11,7 @@ ghost use Rattle.ledger_tables.specs.Calls.{LeavesRowFound};
 
 use crate::ledger_trees::LedgerTrees;
 use ledger_layout::{ClockRow, cause};
+use ledger_rules::laws::law_ledger_rows_fit;
 use records::Unavailable;
 use sqlite_trees::store::Store;
 
@@ -70,6 +71,7 @@ pub(crate) fn add<S: Store>(
         (state ledger_schema S.Store trees.old) (state ledger_schema S.Store trees.new) result }
 {
     let clock = clock as i64;
+    law_ledger_rows_fit();
     match trees.tables.add_at(tenant, &ClockRow { clock }) {
         Ok(()) => Ok(()),
         Err(error) => Err(cause(error)),
@@ -88,6 +90,7 @@ pub(crate) fn set<S: Store>(
         (state ledger_schema S.Store trees.old) (state ledger_schema S.Store trees.new) result }
 {
     let clock = clock as i64;
+    law_ledger_rows_fit();
     match trees.tables.put(tenant, &ClockRow { clock }) {
         Ok(()) => Ok(()),
         Err(error) => Err(cause(error)),

@@ -13,6 +13,7 @@ ghost use Rattle.ledger_tables.specs.Calls.{IfHonest, LeavesRowFound};
 
 use crate::ledger_trees::LedgerTrees;
 use ledger_layout::{ByDigest, ByName, TenantEntry, cause, write_digest_key, write_name_key};
+use ledger_rules::laws::law_ledger_rows_fit;
 use records::Unavailable;
 use rows::DirectoryRow;
 use sqlite_trees::store::Store;
@@ -94,6 +95,7 @@ pub(crate) fn add<S: Store>(
         name,
         digest: *digest,
     };
+    law_ledger_rows_fit();
     match trees.tables.add_at(number, &entry) {
         Ok(()) => Ok(()),
         Err(error) => Err(cause(error)),
@@ -121,6 +123,7 @@ pub(crate) fn set_digest<S: Store>(
         name: entry.name,
         digest: *digest,
     };
+    law_ledger_rows_fit();
     match trees.tables.put(number, &entry) {
         Ok(()) => Ok(()),
         Err(error) => Err(cause(error)),

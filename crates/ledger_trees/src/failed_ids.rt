@@ -13,6 +13,7 @@ ghost use Rattle.ledger_sql.specs.Values.{id_values};
 use crate::ledger_trees::LedgerTrees;
 use amount::Amount;
 use ledger_layout::FailedCells;
+use ledger_rules::laws::law_ledger_rows_fit;
 use records::Unavailable;
 use sqlite_trees::store::Store;
 
@@ -39,6 +40,7 @@ pub(crate) fn add<S: Store>(
         (id_values (column_of id) ∷ []))
         (state ledger_schema S.Store trees.old) (state ledger_schema S.Store trees.new) result }
 {
+    law_ledger_rows_fit();
     let id = Amount::new(id).to_column();
     trees.add_row(tenant, FailedCells { id })
 }

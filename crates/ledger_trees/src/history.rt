@@ -10,6 +10,7 @@ ghost use Rattle.ledger_sql.specs.TableRows.{history_rows};
 ghost use Rattle.ledger_sql.specs.Values.{history_values};
 
 use crate::ledger_trees::LedgerTrees;
+use ledger_rules::laws::law_ledger_rows_fit;
 use records::Unavailable;
 use rows::{HistoryCells, HistoryRow};
 use sqlite_trees::store::Store;
@@ -28,6 +29,7 @@ pub(crate) fn add<S: Store>(
         history_values (history_cells credit.now) ∷ []))
         (state ledger_schema S.Store trees.old) (state ledger_schema S.Store trees.new) result }
 {
+    law_ledger_rows_fit();
     trees.add_row(tenant, HistoryCells::from_row(debit))?;
     if let Err(error) = trees.add_row(tenant, HistoryCells::from_row(credit)) {
         // The first row is not left without the second.

@@ -1,10 +1,11 @@
 //! The tables of a ledger over a store.
 
-ghost use Rattle.std.specs.Prelude.{◌≡◌, false, IfErr, IfOk};
+ghost use Rattle.std.specs.Prelude.{◌≡◌, false, IfErr, IfOk, IsTrue};
 ghost use Rattle.sqlite_trees.specs.View.{IsClean, IsQuiet};
+ghost use Rattle.ledger_trees.specs.Files.{IsLedgerStore};
 
 use keyed_trees::Tables;
-use ledger_layout::LedgerLayout;
+use ledger_layout::{LedgerLayout, law_committed_trees_are_sound};
 use sqlite_trees::store::Store;
 use sqlite_value::row::Row;
 use std::alloc::Global;
@@ -30,18 +31,24 @@ impl<S: Store> Model for LedgerTrees<S> {
 }
 
 impl<S: Store> LedgerTrees<S> {
-    /// The tables of a ledger over a store, whose open transaction is undone. The store is given
-    /// back where a read fails, where its trees are not those of a ledger, or where a key lacks an
-    /// entry.
+    /// The tables of a ledger over the store of its file, whose open transaction is undone. The
+    /// store is given back where it is shut, or where its trees are not those of a ledger.
     pub fn over(alloc: Global, store: S) -> Result<LedgerTrees<S>, S>
+        requires { IsLedgerStore S.Store store }
         ensures trees { IfOk result (λ t. IsClean (S.Store.view t.store) →
             (S.Store.view t.store).trees ≡ (S.Store.view store).committed) }
+        ensures settled { IfOk result (λ t. IsClean (S.Store.view t.store) →
+            (S.Store.view t.store).trees ≡ (S.Store.view t.store).committed) }
+        ensures open { IfOk result (λ t. IsClean (S.Store.view t.store) →
+            IsTrue (S.Store.view t.store).is_open) }
         ensures out { IfOk result (λ t. t.in_transaction ≡ false) }
         ensures quiet { IfOk result (λ t. IsQuiet S.Store.view S.Store.faults S.Store.recovers
             S.Store.is_shielded store t.store) }
         ensures unharmed { IfErr result (λ left. IsQuiet S.Store.view S.Store.faults
             S.Store.recovers S.Store.is_shielded store left) }
+        ensures kept { IfErr result (IsLedgerStore S.Store) }
     {
+        law_committed_trees_are_sound();
         match Tables::over(alloc, store) {
             Ok(tables) => Ok(LedgerTrees {
                 tables,
@@ -54,9 +61,19 @@ impl<S: Store> LedgerTrees<S> {
 
     /// The store, with what an open transaction has written.
     pub fn into_store(self) -> S
-        ensures { result ≡ self.store }
+        ensures same { result ≡ self.store }
+        ensures file { IsLedgerStore S.Store result }
     {
+        law_committed_trees_are_sound();
         let LedgerTrees { tables, .. } = self;
         tables.into_store()
+    }
+
+    /// A law: the store is that of a ledger's file, after each call.
+    pub fn law_is_ledger_store(&self)
+        ensures { IsLedgerStore S.Store self.now.store }
+    {
+        law_committed_trees_are_sound();
+        self.tables.law_is_file();
     }
 }

@@ -4,7 +4,8 @@ ghost use Rattle.std.specs.Prelude.{◌≡◌, IsTrue, OnErr, OnOk};
 ghost use Rattle.sqlite.specs.State.{HasCleanDisk, Survives};
 ghost use Rattle.keyed_trees.specs.Kept.{state};
 ghost use Rattle.ledger_sql.specs.Calls.{LeavesOver, LeavesWritten};
-ghost use Rattle.ledger_sql.specs.Frames.{Follows, IsKeptOrUndone};
+ghost use Rattle.ledger_rules.specs.Whole.{IsWhole};
+ghost use Rattle.ledger_sql.specs.Frames.{Follows, IsKeptOrUndone, Live};
 ghost use Rattle.ledger_sql.specs.Schema.{ledger_schema};
 ghost use Rattle.ledger_sql.specs.Stages.{HasBegun, HasCommitted, HasGoneBack, HasMarked};
 ghost use Rattle.ledger_sql.specs.Stages.{HasReleased, TellsOpen};
@@ -27,6 +28,8 @@ pub(crate) fn begin<S: Store>(trees: &mut LedgerTrees<S>) -> Result<(), Unavaila
 
 /// Commits the transaction. A crash in it leaves what was committed before or what was written.
 pub(crate) fn commit<S: Store>(trees: &mut LedgerTrees<S>) -> Result<(), Unavailable>
+    requires { Live (state ledger_schema S.Store trees.old) →
+        IsWhole (state ledger_schema S.Store trees.old).now.trees }
     ensures ok { HasCleanDisk (state ledger_schema S.Store trees.new) → OnOk result (HasCommitted
         (state ledger_schema S.Store trees.old) (state ledger_schema S.Store trees.new)) }
     ensures err { HasCleanDisk (state ledger_schema S.Store trees.new) → OnErr result

@@ -14,6 +14,7 @@ ghost use Rattle.ledger_sql.specs.Values.{status_values};
 ghost use Rattle.ledger_tables.specs.Calls.{LeavesRowFound};
 
 use crate::ledger_trees::LedgerTrees;
+use ledger_rules::laws::law_ledger_rows_fit;
 use records::Unavailable;
 use rows::{StatusCells, StatusRow};
 use sqlite_trees::store::Store;
@@ -48,6 +49,7 @@ pub(crate) fn add<S: Store>(
         (status_values (status_cells row.now) ∷ []))
         (state ledger_schema S.Store trees.old) (state ledger_schema S.Store trees.new) result }
 {
+    law_ledger_rows_fit();
     trees.add_row(tenant, StatusCells::from_row(row))
 }
 
@@ -62,5 +64,6 @@ pub(crate) fn set<S: Store>(
         (has_id (column_of row.now.transfer)) (status_values (status_cells row.now)))
         (state ledger_schema S.Store trees.old) (state ledger_schema S.Store trees.new) result }
 {
+    law_ledger_rows_fit();
     trees.set_row(tenant, row.transfer, StatusCells::from_row(row))
 }

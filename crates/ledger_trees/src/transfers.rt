@@ -13,6 +13,7 @@ ghost use Rattle.ledger_sql.specs.Values.{transfer_values};
 ghost use Rattle.ledger_tables.specs.Calls.{LeavesRowFound};
 
 use crate::ledger_trees::LedgerTrees;
+use ledger_rules::laws::law_ledger_rows_fit;
 use records::{Transfer, Unavailable};
 use rows::TransferCells;
 use sqlite_trees::store::Store;
@@ -48,5 +49,6 @@ pub(crate) fn add<S: Store>(
         (transfer_values (transfer_cells transfer.now) ∷ []))
         (state ledger_schema S.Store trees.old) (state ledger_schema S.Store trees.new) result }
 {
+    law_ledger_rows_fit();
     trees.add_row(tenant, TransferCells::from_transfer(transfer))
 }

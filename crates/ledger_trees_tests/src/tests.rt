@@ -1,12 +1,15 @@
 //! Both engines, given the same calls: their answers are the same, and so are their rows, which
 //! each then reads of the other's store.
 
+mod bare;
 mod calls;
 mod doubted;
 mod drawn;
+mod entries;
 mod places;
 mod sample;
 mod sinks;
+mod spans;
 mod unclaimed;
 
 use calls::{answer, whole};

@@ -1,10 +1,11 @@
 //! Rows that are found by a key or at a rowid, and rows in order.
 
 ghost use Rattle.std.specs.Prelude.{◌≡◌, All, Contains, IfOk, IfSome, map};
-ghost use Rattle.sqlite_trees.specs.Tree.{has_rowid};
+ghost use Rattle.sqlite_trees.specs.View.{Finds as IsAt};
 ghost use Rattle.keyed_trees.specs.Calls.{Reads, Answers};
 ghost use Rattle.keyed_trees.specs.Layout.{key_of};
-ghost use Rattle.keyed_trees.specs.Rows.{Finds, FindsRow, ReadsAll, ReadsRange, has_key, row_of};
+ghost use Rattle.keyed_trees.specs.Rows.{Finds, FindsAt, FindsRow, ReadsAll, ReadsRange};
+ghost use Rattle.keyed_trees.specs.Rows.{has_key, row_of};
 ghost use Rattle.keyed_trees.specs.Serving.{StaysOut};
 
 use super::Tables;
@@ -35,7 +36,7 @@ impl<S: Store, L: Layout> Tables<S, L> {
 
     /// The row at a rowid, if there is one.
     pub fn find_at<R: Record<L>>(&mut self, id: i64) -> Result<Option<(i64, R)>, StoreError>
-        ensures found { Answers (λ trees found. Finds R.Record.cells (has_rowid id)
+        ensures found { Answers (λ trees found. FindsAt R.Record.cells id
             (trees R.Record.table) found) S.Store self.old self.new result }
         ensures fits { IfOk result (λ found. IfSome found (λ it. R.Record.is_storable it.1)) }
         ensures reads { Reads L.Layout.schema S.Store self.old self.new result }
@@ -123,7 +124,7 @@ impl<S: Store, L: Layout> Tables<S, L> {
 
     fn find_row_at(&mut self, table: u32, id: i64, row: &mut Row) -> Result<bool, StoreError>
         requires { Contains L.Layout.tables table }
-        ensures found { Answers (λ trees found. FindsRow (has_rowid id) (trees table) row.new found)
+        ensures found { Answers (λ trees found. IsAt (trees table) id row.new found)
             S.Store self.old self.new result }
         ensures reads { Reads L.Layout.schema S.Store self.old self.new result }
         ensures out { StaysOut self.old self.new }

@@ -5,7 +5,7 @@ ghost use Rattle.std.specs.Bool.{OnFalse, OnTrue};
 ghost use Rattle.sqlite.specs.State.{HasCleanDisk, Survives};
 ghost use Rattle.sqlite_trees.specs.View.{IsClean};
 ghost use Rattle.keyed_trees.specs.Calls.{Undoes, Writes};
-ghost use Rattle.keyed_trees.specs.Frames.{IsKeptOrUndone};
+ghost use Rattle.keyed_trees.specs.Frames.{IsKeptOrUndone, Live};
 ghost use Rattle.keyed_trees.specs.Kept.{state};
 ghost use Rattle.keyed_trees.specs.Serving.{IsActive};
 ghost use Rattle.keyed_trees.specs.Stages.{HasBegun, HasCommitted, HasGoneBack, HasMarked, HasReleased};
@@ -32,6 +32,8 @@ impl<S: Store, L: Layout> Tables<S, L> {
 
     /// Commits the transaction. A crash in it leaves what was committed before or what was written.
     pub fn commit(&mut self) -> Result<(), StoreError>
+        requires { Live (state L.Layout.schema S.Store self.old) →
+            L.Layout.is_whole (state L.Layout.schema S.Store self.old).now.trees }
         ensures over { self.new.in_transaction ≡ false }
         ensures ok { HasCleanDisk (state L.Layout.schema S.Store self.new) → OnOk result (HasCommitted
             (state L.Layout.schema S.Store self.old) (state L.Layout.schema S.Store self.new)) }
@@ -110,7 +112,9 @@ impl<S: Store, L: Layout> Tables<S, L> {
     }
 
     fn commit_inside(&mut self) -> Result<(), StoreError>
-        requires { IsActive S.Store self.old }
+        requires active { IsActive S.Store self.old }
+        requires whole { Live (state L.Layout.schema S.Store self.old) →
+            L.Layout.is_whole (state L.Layout.schema S.Store self.old).now.trees }
         ensures over { self.new.in_transaction ≡ false }
         ensures ok { HasCleanDisk (state L.Layout.schema S.Store self.new) → OnOk result (HasCommitted
             (state L.Layout.schema S.Store self.old) (state L.Layout.schema S.Store self.new)) }

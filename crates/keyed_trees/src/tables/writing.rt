@@ -4,6 +4,7 @@ ghost use Rattle.std.specs.Prelude.{◌≡◌, ◌∷◌, Contains};
 ghost use Rattle.sqlite_value.specs.declared.value.Value.TheVariants.{Int};
 ghost use Rattle.keyed_trees.specs.Calls.{Writes};
 ghost use Rattle.keyed_trees.specs.Effects.{AddsAt, AppendsTo, PutsInto, RemovesFrom, SetsByKey};
+ghost use Rattle.keyed_trees.specs.Files.{MayStand};
 ghost use Rattle.keyed_trees.specs.Layout.{key_of};
 ghost use Rattle.keyed_trees.specs.Serving.{IsActive};
 
@@ -18,7 +19,9 @@ use sqlite_value::row::Row;
 impl<S: Store, L: Layout> Tables<S, L> {
     /// Adds a row after all others of its table.
     pub fn add<R: Record<L>>(&mut self, content: &R) -> Result<(), StoreError>
-        requires { R.Record.is_storable content.now }
+        requires fits { R.Record.is_storable content.now }
+        requires row { MayStand L.Layout S.Store self.old.store R.Record.table
+            (R.Record.cells content.now) }
         ensures { Writes (AppendsTo L.Layout.keys R.Record.table (R.Record.cells content.now))
             L.Layout.schema S.Store self.old self.new result }
     {
@@ -30,7 +33,9 @@ impl<S: Store, L: Layout> Tables<S, L> {
 
     /// Adds a row at a rowid that no row has. Where one has it the call fails.
     pub fn add_at<R: Record<L>>(&mut self, id: i64, content: &R) -> Result<(), StoreError>
-        requires { R.Record.is_storable content.now }
+        requires fits { R.Record.is_storable content.now }
+        requires row { MayStand L.Layout S.Store self.old.store R.Record.table
+            (R.Record.cells content.now) }
         ensures { Writes (AddsAt L.Layout.keys R.Record.table id (R.Record.cells content.now))
             L.Layout.schema S.Store self.old self.new result }
     {
@@ -42,7 +47,9 @@ impl<S: Store, L: Layout> Tables<S, L> {
 
     /// Puts a row at a rowid, in place of the one that has it.
     pub fn put<R: Record<L>>(&mut self, id: i64, content: &R) -> Result<(), StoreError>
-        requires { R.Record.is_storable content.now }
+        requires fits { R.Record.is_storable content.now }
+        requires row { MayStand L.Layout S.Store self.old.store R.Record.table
+            (R.Record.cells content.now) }
         ensures { Writes (PutsInto L.Layout.keys R.Record.table (Int id ∷ R.Record.cells content.now))
             L.Layout.schema S.Store self.old self.new result }
     {
@@ -54,7 +61,9 @@ impl<S: Store, L: Layout> Tables<S, L> {
 
     /// Sets the columns of the row that has the key, if one has.
     pub fn set<K: Key<L>>(&mut self, key: &Row, content: &K::Of) -> Result<(), StoreError>
-        requires { K.Of.Record.is_storable content.now }
+        requires fits { K.Of.Record.is_storable content.now }
+        requires row { MayStand L.Layout S.Store self.old.store K.Key.shape.table
+            (K.Of.Record.cells content.now) }
         ensures { Writes (SetsByKey L.Layout.keys K.Key.shape key.now (K.Of.Record.cells content.now))
             L.Layout.schema S.Store self.old self.new result }
     {
@@ -78,6 +87,8 @@ impl<S: Store, L: Layout> Tables<S, L> {
     fn add_inside<R: Record<L>>(&mut self, content: &R) -> Result<(), StoreError>
         requires active { IsActive S.Store self.old }
         requires fits { R.Record.is_storable content.now }
+        requires row { MayStand L.Layout S.Store self.old.store R.Record.table
+            (R.Record.cells content.now) }
         ensures { Writes (AppendsTo L.Layout.keys R.Record.table (R.Record.cells content.now))
             L.Layout.schema S.Store self.old self.new result }
     {
@@ -105,6 +116,8 @@ impl<S: Store, L: Layout> Tables<S, L> {
     fn put_inside<R: Record<L>>(&mut self, id: i64, content: &R) -> Result<(), StoreError>
         requires active { IsActive S.Store self.old }
         requires fits { R.Record.is_storable content.now }
+        requires row { MayStand L.Layout S.Store self.old.store R.Record.table
+            (R.Record.cells content.now) }
         ensures { Writes (PutsInto L.Layout.keys R.Record.table (Int id ∷ R.Record.cells content.now))
             L.Layout.schema S.Store self.old self.new result }
     {
@@ -136,6 +149,8 @@ impl<S: Store, L: Layout> Tables<S, L> {
     ) -> Result<(), StoreError>
         requires active { IsActive S.Store self.old }
         requires fits { R.Record.is_storable content.now }
+        requires row { MayStand L.Layout S.Store self.old.store index.now.table
+            (R.Record.cells content.now) }
         requires listed { Contains L.Layout.keys (key_of index.now) }
         ensures { Writes (SetsByKey L.Layout.keys (key_of index.now) key.now (R.Record.cells content.now))
             L.Layout.schema S.Store self.old self.new result }
@@ -163,6 +178,8 @@ impl<S: Store, L: Layout> Tables<S, L> {
     fn add_at_inside<R: Record<L>>(&mut self, id: i64, content: &R) -> Result<(), StoreError>
         requires active { IsActive S.Store self.old }
         requires fits { R.Record.is_storable content.now }
+        requires row { MayStand L.Layout S.Store self.old.store R.Record.table
+            (R.Record.cells content.now) }
         ensures { Writes (AddsAt L.Layout.keys R.Record.table id (R.Record.cells content.now))
             L.Layout.schema S.Store self.old self.new result }
     {

@@ -1,11 +1,14 @@
 //! Things on shelves, with the keys (shelf, name) and (shelf, place).
 
+ghost use Rattle.std.specs.Prelude.{IfOk};
+ghost use Rattle.keyed_trees.specs.Files.{IsFileOf};
+
 use keyed_trees::{Columns, Committed, Key, Layout, Record, Transaction, write_values};
 use sqlite_sql::query::Index;
 use sqlite_trees::error::StoreError;
 use sqlite_trees::memory::MemStore;
 use sqlite_trees::schema::Object;
-use sqlite_trees::store::Shape;
+use sqlite_trees::store::{Shape, Store};
 use sqlite_value::keys::Order;
 use sqlite_value::row::Row;
 use sqlite_value::value::ValueRef;
@@ -26,7 +29,15 @@ impl Layout for Shelves {
     ghost keys = { record { tree = 1; table = 0; columns = 1 ∷ 2 ∷ []; order = plain }
         ∷ record { tree = 2; table = 0; columns = 1 ∷ 3 ∷ []; order = plain } ∷ [] };
 
+    ghost is_row = { λ _ _. Unit {0} };
+
+    ghost is_listed = { λ _. Unit {0} };
+
+    ghost is_whole = { λ _. Unit {0} };
+
     ghost apart = { Prim.search rules };
+
+    ghost unlisted = { Prim.search rules };
 
     fn tables() -> &'static [u32] {
         &[0]
@@ -190,8 +201,17 @@ pub(crate) fn object(name: &'static str, shape: Shape, sql: &'static str) -> Obj
     }
 }
 
-pub(crate) fn store(alloc: Global) -> Result<MemStore, Fail> {
-    Ok(MemStore::new(
+/// A store in memory with these objects and no rows.
+pub(crate) fn store_of(alloc: Global, objects: &[Object<'_>]) -> Result<MemStore, Fail>
+    ensures { IfOk result (IsFileOf ⟦<Shelves as Layout>⟧ ⟦<MemStore as Store>⟧) }
+{
+    Ok(MemStore::new(alloc, objects)?)
+}
+
+pub(crate) fn store(alloc: Global) -> Result<MemStore, Fail>
+    ensures { IfOk result (IsFileOf ⟦<Shelves as Layout>⟧ ⟦<MemStore as Store>⟧) }
+{
+    store_of(
         alloc,
         &[
             object(
@@ -210,11 +230,14 @@ pub(crate) fn store(alloc: Global) -> Result<MemStore, Fail> {
                 "CREATE INDEX by_place ON thing (shelf, place)",
             ),
         ],
-    )?)
+    )
 }
 
 pub(crate) fn things(alloc: Global) -> Result<Committed<MemStore, Shelves>, Fail> {
-    Committed::over(alloc, store(alloc)?).map_err(|_| Fail::from(StoreError::Broken))
+    match Committed::over(alloc, store(alloc)?) {
+        Ok(tables) => Ok(tables),
+        Err(_) => Err(Fail::from(StoreError::Broken)),
+    }
 }
 
 pub(crate) fn begin(

@@ -1,6 +1,7 @@
 //! Ledgers in memory, kept by either engine.
 
 use super::doubted::{Doubted, Store};
+use super::unclaimed::store_claims_nothing;
 use ledger_sql::{adding, creating, stages};
 use ledger_trees::LedgerTrees;
 use sqlite::{Connection, Files, Options};
@@ -15,8 +16,8 @@ const SMALL: Options = Options {
     seed: 7,
 };
 
-/// A new ledger of two tenants over texts of SQL.
-pub fn new_ledger(alloc: Global) -> Result<Connection<Store>, Fail> {
+/// A new ledger without tenants over texts of SQL, in the transaction that makes it.
+fn begun_ledger(alloc: Global) -> Result<Connection<Store>, Fail> {
     let files = Files {
         log: Doubted::new(alloc),
         db: Doubted::new(alloc),
@@ -27,6 +28,19 @@ pub fn new_ledger(alloc: Global) -> Result<Connection<Store>, Fail> {
     };
     stages::begin(&mut conn)?;
     creating::make_tables(&mut conn)?;
+    Ok(conn)
+}
+
+/// A new ledger without tenants.
+pub fn empty_ledger(alloc: Global) -> Result<Connection<Store>, Fail> {
+    let mut conn = begun_ledger(alloc)?;
+    stages::commit(&mut conn)?;
+    Ok(conn)
+}
+
+/// A new ledger of two tenants.
+pub fn new_ledger(alloc: Global) -> Result<Connection<Store>, Fail> {
+    let mut conn = begun_ledger(alloc)?;
     adding::add_tenant(&mut conn, 1, "one", &[1; 32])?;
     adding::add_clock(&mut conn, 1, 50)?;
     adding::add_tenant(&mut conn, 2, "two", &[2; 32])?;
@@ -37,6 +51,7 @@ pub fn new_ledger(alloc: Global) -> Result<Connection<Store>, Fail> {
 
 /// The ledger in a store, over trees.
 pub fn over_trees(alloc: Global, store: Store) -> Result<LedgerTrees<Store>, Fail> {
+    store_claims_nothing(&store);
     match LedgerTrees::over(alloc, store) {
         Ok(trees) => Ok(trees),
         Err(_) => Err(Fail::from(StoreError::Broken)),

@@ -1,3 +1,4 @@
+use Rattle.ledger_trees.proofs.FitLemmas.{clock_fits}
 use Rattle.std.proofs.Common.{pos, true, refl, to_z-of_z, SFits, w64, rules}
 use Rattle.std.proofs.Math.Facts.{to_z_pos}
 use Rattle.keyed_trees.specs.Kept.{state}
@@ -9,6 +10,9 @@ use Rattle.ledger_layout.proofs.FrameLemmas.{follows, wrote}
 use Rattle.ledger_trees.proofs.FileLemmas.{sets_clock}
 use Rattle.ledger_trees.proofs.clock.set.Goals as goal
 use Rattle.ledger_trees.proofs.clock.set.Goals.{in-Ok, in-Err}
+
+pub put-requires-clause-row : goal.put-requires-clause-row
+put-requires-clause-row g c clean = clock_fits c.law_ledger_rows_fit.ensures _
 
 pub returns : goal.returns
 returns g c =

@@ -1,3 +1,4 @@
+use Rattle.ledger_trees.proofs.FitLemmas.{tenant_fits}
 use Rattle.std.proofs.Common.{ℕ, List, refl, subst, string_bytes, to_z-of_z, SFits, w64, rules}
 use Rattle.keyed_trees.specs.Kept.{state}
 use Rattle.ledger_sql.specs.Effects.{AddsFileRow}
@@ -7,6 +8,9 @@ use Rattle.ledger_sql.specs.Values.{directory_values}
 use Rattle.ledger_layout.proofs.FrameLemmas.{wrote}
 use Rattle.ledger_trees.proofs.FileLemmas.{adds_tenant}
 use Rattle.ledger_trees.proofs.directory.add.Goals as goal
+
+pub add_at-requires-clause-row : goal.add_at-requires-clause-row
+add_at-requires-clause-row g c clean = tenant_fits c.law_ledger_rows_fit.ensures _ _ (search rules)
 
 pub returns-in-Ok-add_at : goal.returns-in-Ok-add_at
 returns-in-Ok-add_at g c =

@@ -1,3 +1,4 @@
+use Rattle.ledger_trees.proofs.FitLemmas.{tenant_fits}
 use Rattle.std.proofs.Common.{refl, ◌∷◌, string_bytes, to_z-of_z, SFits, w64, rules}
 use Rattle.sqlite_value.specs.declared.value.Value.TheVariants.{Int}
 use Rattle.keyed_trees.specs.Kept.{state}
@@ -8,6 +9,9 @@ use Rattle.ledger_layout.proofs.FrameLemmas.{clean_before, follows, follows_then
 use Rattle.ledger_trees.proofs.FileLemmas.{sets_digest, sets_no_digest}
 use Rattle.ledger_trees.proofs.TwoCallLemmas.{put_after, stays_inside}
 use Rattle.ledger_trees.proofs.directory.set_digest.Goals as goal
+
+pub put-requires-clause-row : goal.put-requires-clause-row
+put-requires-clause-row g c clean = tenant_fits c.law_ledger_rows_fit.ensures _ _ (search rules)
 
 pub returns-in_default : goal.returns-in_default
 returns-in_default g c =

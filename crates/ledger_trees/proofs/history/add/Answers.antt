@@ -1,3 +1,4 @@
+use Rattle.ledger_trees.proofs.FitLemmas.{history_fits}
 use Rattle.std.proofs.Common.{Result, Ok, [], ◌∷◌, subst, to_z-of_z, SFits, w64, rules}
 use Rattle.keyed_trees.specs.Kept.{state}
 use Rattle.records.specs.declared.unavailable.Unavailable.{Unavailable}
@@ -12,6 +13,12 @@ use Rattle.ledger_sql.specs.Values.{history_values}
 use Rattle.ledger_layout.proofs.FrameLemmas.{clean_before, follows_then}
 use Rattle.ledger_trees.proofs.TwoCallLemmas.{adds_both}
 use Rattle.ledger_trees.proofs.history.add.Goals as goal
+
+pub add_row-requires : goal.add_row-requires
+add_row-requires g c = history_fits c.law_ledger_rows_fit.ensures _ c.args.debit.now _ c.from_row.ensures
+
+pub add_row-requires-2 : goal.add_row-requires-2
+add_row-requires-2 g c = history_fits c.law_ledger_rows_fit.ensures _ c.args.credit.now _ c.from_row-2.ensures
 
 pub returns : goal.returns
 returns g c =

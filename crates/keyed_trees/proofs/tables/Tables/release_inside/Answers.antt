@@ -9,7 +9,7 @@ pub invariant_of-self : goal.invariant_of-self
 invariant_of-self g c =
     let it = c.self.inside in
     let new = c.release-outcome.new.store in
-    rw c.forget_all.ensures (lemma.keeps_undone g.S.Store g.L.Layout.tables g.L.Layout.keys it.catalog.now it.next it.in_transaction it.store c.self.invariant
+    rw c.forget_all.ensures (lemma.keeps_undone g.L.Layout g.S.Store it.catalog.now it.next it.in_transaction it.store c.self.invariant
     new (g.met.S.Store.shut_if_dirty new) c.release-outcome.ensures.quiet (λ clean. when_err c.release-outcome.result c.if-is_err.ensures.value (c.release-outcome.ensures.err clean)) (when_err c.release-outcome.result c.if-is_err.ensures.value c.release-outcome.ensures.lists))
 
 pub invariant_of-self-else-is_err : goal.invariant_of-self-else-is_err
@@ -17,7 +17,7 @@ invariant_of-self-else-is_err g c =
     let it = c.self.inside in
     let new = c.release-outcome.new.store in
     let active = subst (IsActive g.S.Store) (sym c.self.view_is) c.requires in
-    lemma.keeps_released g.S.Store g.L.Layout.tables g.L.Layout.keys it.catalog.now it.next it.in_transaction it.store c.self.invariant
+    lemma.keeps_released g.L.Layout g.S.Store it.catalog.now it.next it.in_transaction it.store c.self.invariant
     new (g.met.S.Store.shut_if_dirty new) c.release-outcome.ensures.quiet active.mode (when_ok c.release-outcome.result c.if-is_err.ensures.value c.release-outcome.ensures.ok)
 
 pub returns-else-is_err : goal.returns-else-is_err

@@ -6,7 +6,7 @@ pub invariant_of-self : goal.invariant_of-self
 invariant_of-self g c =
     let it = c.self.inside in
     let new = c.rollback.new.self in
-    rw c.forget_all.ensures (lemma.keeps_rolled_back g.S.Store g.L.Layout.tables g.L.Layout.keys it.catalog.now it.next it.in_transaction it.store c.self.invariant
+    rw c.forget_all.ensures (lemma.keeps_rolled_back g.L.Layout g.S.Store it.catalog.now it.next it.in_transaction it.store c.self.invariant
     new (g.met.S.Store.shut_if_dirty new) c.rollback.ensures.quiet c.rollback.ensures.undone)
 
 pub returns-clause-undone : goal.returns-clause-undone

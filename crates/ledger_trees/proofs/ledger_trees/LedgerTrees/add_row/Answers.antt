@@ -8,6 +8,11 @@ use Rattle.ledger_trees.proofs.EffectLemmas.{adds}
 use Rattle.ledger_layout.proofs.FrameLemmas.{wrote}
 use Rattle.ledger_trees.proofs.ledger_trees.LedgerTrees.add_row.Goals as goal
 
+pub add-requires-clause-row : goal.add-requires-clause-row
+add-requires-clause-row g c clean =
+    let fits : SFits w64 c.args.tenant = search rules in
+    simp to_z-of_z c.requires
+
 pub returns-in-Ok : goal.returns-in-Ok
 returns-in-Ok g c =
     let old = state ledger_schema g.S.Store c.self.inside.tables in

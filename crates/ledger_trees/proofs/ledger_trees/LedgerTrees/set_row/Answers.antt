@@ -9,6 +9,11 @@ use Rattle.ledger_trees.proofs.EffectLemmas.{sets}
 use Rattle.ledger_layout.proofs.FrameLemmas.{wrote, when_ok}
 use Rattle.ledger_trees.proofs.ledger_trees.LedgerTrees.set_row.Goals as goal
 
+pub set-requires-clause-row : goal.set-requires-clause-row
+set-requires-clause-row g c clean =
+    let fits : SFits w64 c.args.tenant = search rules in
+    simp to_z-of_z c.requires
+
 pub returns-in-Ok : goal.returns-in-Ok
 returns-in-Ok g c =
     let old = state ledger_schema g.S.Store c.self.inside.tables in

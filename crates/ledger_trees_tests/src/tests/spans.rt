@@ -1,31 +1,29 @@
-mod ledger;
+//! What is listed over trees.
 
-use crate::{
+use super::bare::{Bare, account, add, add_at, bare_ledger, id, put_version, transfer};
+use ledger_layout::{ClockRow, FailedCells, TenantEntry, TenantRow};
+use ledger_spans::{
     directory, list_accounts, list_balances, list_clocks, list_failed, list_history, list_statuses,
     list_transfers, list_versions, newest_accounts, newest_transfers, oldest_accounts,
     oldest_transfers,
 };
-use keyed_trees::Tables;
-use ledger::{account, id, ledger, transfer};
-use ledger_layout::{ClockRow, FailedCells, LedgerLayout, TenantEntry, TenantRow, VersionRow};
 use records::Unavailable;
 use rows::{BalanceCells, HistoryCells, StatusCells};
-use sqlite_trees::memory::MemStore;
 use std::alloc::Global;
 use std::rt::HostRuntime;
 use std::test::Fail;
 
 /// A ledger whose tenant 1 has three accounts and three transfers, and tenant 2 one of each.
-fn two_tenants(alloc: Global) -> Result<Tables<MemStore, LedgerLayout>, Fail> {
-    let mut tables = ledger(alloc)?;
-    tables.add(&account(1, 3, 10))?;
-    tables.add(&account(2, 1, 20))?;
-    tables.add(&account(1, 1, 20))?;
-    tables.add(&account(1, 2, 30))?;
-    tables.add(&transfer(1, 6, 40))?;
-    tables.add(&transfer(1, 5, 50))?;
-    tables.add(&transfer(2, 5, 50))?;
-    tables.add(&transfer(1, 4, 60))?;
+fn two_tenants(alloc: Global) -> Result<Bare, Fail> {
+    let mut tables = bare_ledger(alloc)?;
+    add(&mut tables, &account(1, 3, 10))?;
+    add(&mut tables, &account(2, 1, 20))?;
+    add(&mut tables, &account(1, 1, 20))?;
+    add(&mut tables, &account(1, 2, 30))?;
+    add(&mut tables, &transfer(1, 6, 40))?;
+    add(&mut tables, &transfer(1, 5, 50))?;
+    add(&mut tables, &transfer(2, 5, 50))?;
+    add(&mut tables, &transfer(1, 4, 60))?;
     Ok(tables)
 }
 
@@ -62,10 +60,10 @@ fn transfers_of_a_span_come_in_order_of_time(rt: HostRuntime) -> Result<(), Fail
 #[test]
 fn an_account_whose_number_is_too_large_is_refused(rt: HostRuntime) -> Result<(), Fail> {
     let alloc = rt.alloc();
-    let mut tables = ledger(alloc)?;
+    let mut tables = bare_ledger(alloc)?;
     let mut row = account(1, 1, 10);
     row.cells.code = 65536;
-    tables.add(&row)?;
+    add(&mut tables, &row)?;
     assert_eq!(&rt;
         oldest_accounts(alloc, &mut tables, 1, 0, 99, 9).err(),
         Some(Unavailable::Size)
@@ -101,7 +99,7 @@ fn accounts_and_transfers_are_listed_by_id(rt: HostRuntime) -> Result<(), Fail> 
 #[test]
 fn balances_statuses_and_failed_ids_are_listed_by_id(rt: HostRuntime) -> Result<(), Fail> {
     let alloc = rt.alloc();
-    let mut tables = ledger(alloc)?;
+    let mut tables = bare_ledger(alloc)?;
     let balance = BalanceCells {
         account: id(7),
         dp: id(1),
@@ -115,19 +113,28 @@ fn balances_statuses_and_failed_ids_are_listed_by_id(rt: HostRuntime) -> Result<
         due: 90,
     };
     for tenant in 1..3 {
-        tables.add(&TenantRow {
-            tenant,
-            cells: balance,
-        })?;
-        tables.add(&TenantRow {
-            tenant,
-            cells: status,
-        })?;
-        for low in [9, 5] {
-            tables.add(&TenantRow {
+        add(
+            &mut tables,
+            &TenantRow {
                 tenant,
-                cells: FailedCells { id: id(low) },
-            })?;
+                cells: balance,
+            },
+        )?;
+        add(
+            &mut tables,
+            &TenantRow {
+                tenant,
+                cells: status,
+            },
+        )?;
+        for low in [9, 5] {
+            add(
+                &mut tables,
+                &TenantRow {
+                    tenant,
+                    cells: FailedCells { id: id(low) },
+                },
+            )?;
         }
     }
     assert_eq!(&rt;
@@ -148,12 +155,15 @@ fn balances_statuses_and_failed_ids_are_listed_by_id(rt: HostRuntime) -> Result<
 #[test]
 fn a_history_is_listed_by_account_and_timestamp(rt: HostRuntime) -> Result<(), Fail> {
     let alloc = rt.alloc();
-    let mut tables = ledger(alloc)?;
+    let mut tables = bare_ledger(alloc)?;
     for (tenant, low, timestamp) in [(1, 2, 10), (1, 1, 30), (2, 1, 15), (1, 1, 20)] {
-        tables.add(&TenantRow {
-            tenant,
-            cells: entry(low, timestamp),
-        })?;
+        add(
+            &mut tables,
+            &TenantRow {
+                tenant,
+                cells: entry(low, timestamp),
+            },
+        )?;
     }
     assert_eq!(&rt;
         list_history(alloc, &mut tables, 1)?.as_slice(),
@@ -176,20 +186,22 @@ fn entry(low: u8, timestamp: i64) -> HistoryCells {
 #[test]
 fn versions_clocks_and_the_directory_are_listed(rt: HostRuntime) -> Result<(), Fail> {
     let alloc = rt.alloc();
-    let mut tables = ledger(alloc)?;
-    tables.add(&VersionRow { version: 3 })?;
+    let mut tables = bare_ledger(alloc)?;
+    put_version(&mut tables, 4)?;
     assert_eq!(&rt;
         list_versions(alloc, &mut tables)?.as_slice(),
-        [3].as_slice()
+        [4].as_slice()
     );
     for (number, name) in [(7, "south"), (5, "north")] {
-        tables.add_at(
+        add_at(
+            &mut tables,
             number,
             &ClockRow {
                 clock: number * 100,
             },
         )?;
-        tables.add_at(
+        add_at(
+            &mut tables,
             number,
             &TenantEntry {
                 name: String::from_str(alloc, name)?,
@@ -201,6 +213,7 @@ fn versions_clocks_and_the_directory_are_listed(rt: HostRuntime) -> Result<(), F
         list_clocks(alloc, &mut tables, 5)?.as_slice(),
         [500].as_slice()
     );
+    assert_eq!(&rt; list_clocks(alloc, &mut tables, 6)?.len(), 0);
     let listed = directory(alloc, &mut tables)?;
     assert_eq!(&rt; listed.len(), 2);
     assert_eq!(&rt; (listed[0].number, listed[0].name.as_str()), (5, "north"));

@@ -1,20 +1,13 @@
-//! Entries over a store in memory.
+//! An account's entries over trees.
 
-use crate::{TenantAccount, first_entries_from, first_entries_until};
-use keyed_trees::Tables;
-use ledger_layout::{LedgerLayout, TenantRow};
+use super::bare::{Bare, add, bare_ledger, id, transfer};
+use ledger_entries::{TenantAccount, first_entries_from, first_entries_until};
+use ledger_layout::TenantRow;
 use ledger_sql::{EntryCells, EntrySink};
-use rows::{HistoryCells, TransferCells};
-use sqlite_trees::error::StoreError;
-use sqlite_trees::memory::MemStore;
-use sqlite_trees::schema::Object;
-use sqlite_trees::store::Shape;
-use sqlite_value::keys::Order;
+use rows::HistoryCells;
 use std::alloc::Global;
 use std::rt::HostRuntime;
 use std::test::Fail;
-
-type Ledger = Tables<MemStore, LedgerLayout>;
 
 /// Takes the times and the transfers' ids of entries until it has `most`.
 #[derive(Drop)]
@@ -48,102 +41,26 @@ impl EntrySink for Taken {
     }
 }
 
-fn object(name: &'static str, table: &'static str, shape: Shape) -> Object<'static> {
-    Object {
-        shape,
-        kind: if matches!(shape, Shape::Table) {
-            "table"
-        } else {
-            "index"
-        },
-        name,
-        table,
-        reals: 0,
-        sql: None,
-    }
-}
-
-fn table(name: &'static str) -> Object<'static> {
-    object(name, name, Shape::Table)
-}
-
-fn key(name: &'static str, table: &'static str) -> Object<'static> {
-    object(name, table, Shape::Index(Order::PLAIN))
-}
-
-/// A ledger without rows, in a transaction.
-fn ledger(alloc: Global) -> Result<Ledger, Fail> {
-    let store = MemStore::new(
-        alloc,
-        &[
-            table("schema"),
-            table("tenant"),
-            key("tenant_1", "tenant"),
-            key("tenant_2", "tenant"),
-            table("clock"),
-            table("account"),
-            key("account_1", "account"),
-            key("account_2", "account"),
-            table("transfer"),
-            key("transfer_1", "transfer"),
-            key("transfer_2", "transfer"),
-            table("balance"),
-            key("balance_1", "balance"),
-            table("status"),
-            key("status_1", "status"),
-            table("history"),
-            key("history_1", "history"),
-            table("failed"),
-            key("failed_1", "failed"),
-        ],
-    )?;
-    let mut tables = Ledger::over(alloc, store).map_err(|_| Fail::from(StoreError::Broken))?;
-    tables.begin()?;
-    Ok(tables)
-}
-
-fn bytes(last: u8) -> [u8; 16] {
-    let mut bytes = [0; 16];
-    bytes[15] = last;
-    bytes
-}
-
-fn add_history(tables: &mut Ledger, tenant: i64, account: u8, time: i64) -> Result<(), Fail> {
+fn add_history(tables: &mut Bare, tenant: i64, account: u8, time: i64) -> Result<(), Fail> {
     let cells = HistoryCells {
-        account: bytes(account),
+        account: id(account),
         timestamp: time,
-        dp: bytes(0),
-        dd: bytes(0),
-        cp: bytes(0),
-        cc: bytes(0),
+        dp: id(0),
+        dd: id(0),
+        cp: id(0),
+        cc: id(0),
     };
-    tables.add(&TenantRow { tenant, cells })?;
+    add(tables, &TenantRow { tenant, cells })?;
     Ok(())
 }
 
-fn add_transfer(tables: &mut Ledger, tenant: i64, id: u8, time: i64) -> Result<(), Fail> {
-    let cells = TransferCells {
-        id: bytes(id),
-        debit: bytes(1),
-        credit: bytes(2),
-        amount: bytes(9),
-        pending_id: bytes(0),
-        user_data_128: bytes(0),
-        user_data_64: [0; 8],
-        user_data_32: 0,
-        timeout: 0,
-        ledger: 978,
-        code: 1,
-        flags: 0,
-        timestamp: time,
-        at_clock: time,
-    };
-    tables.add(&TenantRow { tenant, cells })?;
+fn add_transfer(tables: &mut Bare, tenant: i64, low: u8, time: i64) -> Result<(), Fail> {
+    add(tables, &transfer(tenant, low, time))?;
     Ok(())
 }
 
 /// Adds a transfer and the rows that two accounts have of it.
-fn add_entry(tables: &mut Ledger, id: u8, time: i64) -> Result<(), Fail> {
+fn add_entry(tables: &mut Bare, id: u8, time: i64) -> Result<(), Fail> {
     add_transfer(tables, 7, id, time)?;
     add_history(tables, 7, 1, time)?;
     add_history(tables, 7, 2, time)
@@ -152,8 +69,8 @@ fn add_entry(tables: &mut Ledger, id: u8, time: i64) -> Result<(), Fail> {
 const ACCOUNT: TenantAccount = TenantAccount { tenant: 7, id: 1 };
 
 /// Four entries of the account, at the times 10 to 40, and rows of others.
-fn four_entries(alloc: Global) -> Result<Ledger, Fail> {
-    let mut tables = ledger(alloc)?;
+fn four_entries(alloc: Global) -> Result<Bare, Fail> {
+    let mut tables = bare_ledger(alloc)?;
     add_entry(&mut tables, 3, 30)?;
     add_entry(&mut tables, 1, 10)?;
     add_entry(&mut tables, 4, 40)?;
@@ -208,7 +125,7 @@ fn a_full_sink_and_the_count_end_the_entries(rt: HostRuntime) -> Result<(), Fail
 /// 300 entries are more than two pieces of the history.
 #[test]
 fn the_history_is_read_over_its_pieces(rt: HostRuntime) -> Result<(), Fail> {
-    let mut tables = ledger(rt.alloc())?;
+    let mut tables = bare_ledger(rt.alloc())?;
     for time in 1..301 {
         add_entry(&mut tables, 1, time)?;
     }
@@ -229,7 +146,7 @@ fn the_history_is_read_over_its_pieces(rt: HostRuntime) -> Result<(), Fail> {
 
 #[test]
 fn an_entry_stands_for_each_transfer_of_the_time(rt: HostRuntime) -> Result<(), Fail> {
-    let mut tables = ledger(rt.alloc())?;
+    let mut tables = bare_ledger(rt.alloc())?;
     add_history(&mut tables, 7, 1, 10)?;
     add_entry(&mut tables, 1, 20)?;
     add_transfer(&mut tables, 7, 2, 20)?;
