@@ -1,13 +1,14 @@
 //! A ledger of any version, opened to be migrated.
 
 ghost use Rattle.std.specs.Prelude.{◌≡◌, ◌≤◌, ◌↔◌, IsOk, IfOk, IfErr, IsTrue};
-ghost use Rattle.sqlite.specs.Files.{file_state, image_of};
+ghost use Rattle.sqlite.specs.Files.{image_of};
 ghost use Rattle.sqlite.specs.State.{HasCleanDisk};
 ghost use Rattle.sqlite_wal.specs.Files.{image_at};
 ghost use Rattle.sqlite_wal.specs.Reads.{AreClean};
 ghost use Rattle.openings.specs.AtPath.{LeavesPath};
 ghost use Rattle.openings.specs.Calls.{AreUsable};
 ghost use Rattle.openings.specs.Found.{LeavesCommitted, Yields};
+ghost use Rattle.openings.specs.OpenTables.{open_state};
 ghost use Rattle.stored_ledgers.specs.Resting.{IsServing};
 ghost use Rattle.migrate.specs.Ledgers.{IsMigratable, IsOpenedToMigrate, RefusesFiles, state_of};
 
@@ -15,6 +16,7 @@ use crate::any_version::AnyVersion;
 use openings::auditing::Audit;
 use openings::closing::{is_settled, shut};
 use openings::inspecting::open_telling;
+use openings::open_tables::OpenTables;
 use openings::opening::{OpenFault, files_at};
 use openings::versions::CURRENT_VERSION;
 use sqlite::{Connection, FileStore, Files, Options};
@@ -112,9 +114,9 @@ impl<D: Disk + Drop> LedgerOfVersion<D> {
 
     /// The database and what is due of each tenant, to be served with no second reading, where the
     /// version is the current one and calls are answered; else the ledger itself.
-    pub fn into_served(self) -> Result<(Connection<FileStore<D>>, DueSets), LedgerOfVersion<D>>
+    pub fn into_served(self) -> Result<(OpenTables<D>, DueSets), LedgerOfVersion<D>>
         requires { IsMigratable self }
-        ensures serves { IfOk result (λ parts. IsServing parts.1 (file_state parts.0)) }
+        ensures serves { IfOk result (λ parts. IsServing parts.1 (open_state parts.0)) }
         ensures over { IfOk result (λ parts. parts.0 ≡ self.conn) }
         ensures served { IsOk result ↔ ((CURRENT_VERSION ≤ self.version) × IsTrue self.ready) }
         ensures back { IfErr result (λ ledger. ledger ≡ self) }

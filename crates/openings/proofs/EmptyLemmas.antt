@@ -1,5 +1,6 @@
 -- A new ledger.
 use Rattle.std.proofs.Common.{◌≡◌, ℕ, ℤ, None, ◌≤◌, length, List, [], ◌∷◌, map, filter, refl, sym, ap, subst, ◌∙◌, arith}
+use Rattle.std.specs.List.{AllByRecursion}
 use Rattle.sqlite_value.specs.Order.{Row, column}
 use Rattle.sqlite_trees.specs.Tree.{Trees}
 use Rattle.sqlite_schema.specs.declared.schema.Schema.{Schema}
@@ -7,7 +8,7 @@ use Rattle.sqlite.specs.State.{State}
 use Rattle.ledger_sql.specs.Rowids.{IsNumbered}
 use Rattle.ledger_sql.specs.Schema.{tenant_tree}
 use Rattle.ledger_sql.specs.TableRows.{is_own, is_int, is_blob, cells_from, directory_rows, with_name as rows_with_name}
-use Rattle.stored_ledgers.specs.Directory.{number_of, first_number, AreDistinct}
+use Rattle.stored_ledgers.specs.Directory.{number_of, first_number, AreDistinct, IsEntry}
 use Rattle.stored_ledgers.specs.DueSets.{DueSets}
 use Rattle.stored_ledgers.specs.Ledger.{HoldsLedgers}
 use Rattle.stored_ledgers.specs.Resting.{IsNewLedger, IsResting}
@@ -72,6 +73,7 @@ new_holds s new =
           ),
         ),
       );
+      entries = subst (AllByRecursion IsEntry) (sym (no_tenants trees none.0)) tt;
       distinct = none_distinct trees none.0;
       machines = λ digest number is. absurd (let e = sym (no_number trees none.0 digest) ∙ is in cc);
       owned = λ number free. record {

@@ -2,7 +2,8 @@
 use Rattle.std.proofs.Common.{◌≡◌, ℕ, zero, suc, inl, inr, ℤ, List, [], ◌∷◌, Some, refl, sym, ap, subst, ◌∙◌}
 use Rattle.std.specs.List.{AllByRecursion, AllZip}
 use Rattle.std.proofs.lemmas.List.Elements.{recursion_from_All}
-use Rattle.std.specs.Prelude.{slice_get}
+use Rattle.std.specs.Prelude.{map, slice_get, string_bytes}
+use Rattle.std.proofs.lemmas.List.Sorted.{IsPermutation-sym}
 use Rattle.records.specs.Machine.{Machine}
 use Rattle.records.specs.Valid.{IsValid}
 use Rattle.rows.specs.declared.all_rows.DirectoryRow.{DirectoryRow}
@@ -15,10 +16,13 @@ use Rattle.sqlite_rules.specs.Lists.{Has}
 use Rattle.sqlite_rules.proofs.ListLemmas.{all_from}
 use Rattle.sqlite_catalog.specs.Listing.{IsSound}
 use Rattle.sqlite_trees.specs.Tree.{Trees}
+use Rattle.sqlite_trees.proofs.ListLemmas.{all-permutation}
 use Rattle.sqlite.specs.Effect.{Database}
+use Rattle.ledger_sql.specs.TableRows.{directory_rows}
+use Rattle.ledger_sql.specs.Values.{directory_values}
 use Rattle.stored_tables.specs.Holds.{HoldsMachine}
 use Rattle.stored_tables.specs.MachineOf.{machine_of}
-use Rattle.stored_ledgers.specs.Directory.{number_of}
+use Rattle.stored_ledgers.specs.Directory.{IsEntry, number_of}
 use Rattle.stored_ledgers.specs.DueSets.{DueSets, CoversMachine, AreCovered}
 use Rattle.openings.specs.Found.{HasOrderedTables}
 use Rattle.stored_ledgers.specs.Ledger.{HoldsLedgers}
@@ -98,12 +102,26 @@ module _ (sets : DueSets) (db : Database) (sound : IsSound db.schema db.trees) (
     own_held : HoldsMachine number own_sound.0 db.trees
     own_held = machine_held number db.trees own own_read own_sound
 
+  -- each row of the directory was read as a tenant's
+  are_entries : AllByRecursion IsEntry (directory_rows db.trees)
+  are_entries =
+      all-permutation IsEntry _ _ (IsPermutation-sym _ _ examined.read.directory.all) (made examined.all.directory.items)
+    where
+      made : (rows : List DirectoryRow)
+          → AllByRecursion IsEntry (map (λ row. directory_values row.number (string_bytes row.name) row.digest) rows)
+      made [] = tt
+      made (row ∷ rows) = (
+        record { name = string_bytes row.name; named = refl; digest = row.digest; known = refl },
+        made rows,
+      )
+
   -- the database holds ledgers
   pub examined_holds : HoldsLedgers db
   examined_holds = record {
     schema = examined.ledger;
     version = examined.version;
     numbered = are_numbered db.schema db.trees examined.ledger sound ordered;
+    entries = are_entries;
     distinct = are_distinct db.schema db.trees examined.ledger sound ordered;
     machines = λ digest number is.
         let held = own_held number (kept_at digest number is) in

@@ -37,11 +37,6 @@ pub record LeavesExamined {A E : Type 0} (Finds : A → Database → Type 0)
   pub told : HasCleanDisk new → IfErr result (λ fault. Tells fault old.now)
   pub looks : Looks old new result
 
-abbrev pub ReadsTables : {S A E : Type 0} → (Schema → Type 0) → (Trees → A → Type 0) → Ghosts S
-    → Held S → Held S → Result A E → Type 0
-ReadsTables Has Answer store old new result =
-    LeavesTablesRead Has Answer (state store old) (state store new) result
-
 abbrev pub Examines : {S A E : Type 0} → (A → Database → Type 0) → (E → Database → Type 0)
     → Ghosts S → Held S → Held S → Result A E → Type 0
 Examines Finds Tells store old new result =

@@ -1,3 +1,4 @@
+pub mod OpenTables
 pub mod Tables
 pub mod Whole
 pub mod Shape

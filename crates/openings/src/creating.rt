@@ -9,10 +9,12 @@ ghost use Rattle.ledger_sql.specs.Frames.{Live, IsUnmarked};
 ghost use Rattle.ledger_sql.specs.Schema.{no_schema};
 ghost use Rattle.openings.specs.Calls.{AreUsable, IsMadeIn, MakesNew, RefusesToFill};
 ghost use Rattle.openings.specs.Found.{IsBlankHere};
+ghost use Rattle.openings.specs.OpenTables.{open_state};
 ghost use Rattle.openings.specs.Refused.{RefusesToMake};
 ghost use Rattle.stored_ledgers.specs.Resting.{Rests, IsNewLedger, IsSame};
 
 use crate::closing::shut;
+use crate::open_tables::OpenTables;
 use crate::opening::{OpenFault, open_on};
 use crate::shape::refusal;
 use ledger_sql::creating::make_tables;
@@ -75,9 +77,9 @@ pub fn create_ledger<D: Disk + Drop>(
     alloc: Global,
     files: Files<D>,
     options: Options,
-) -> Result<Connection<FileStore<D>>, (OpenFault, Files<D>)>
+) -> Result<OpenTables<D>, (OpenFault, Files<D>)>
     requires { AreUsable D.Disk files }
-    ensures made { IfOk result (λ conn. IsMadeIn D.Disk files (file_state conn)) }
+    ensures made { IfOk result (λ tables. IsMadeIn D.Disk files (open_state tables)) }
     ensures refused { IfErr result (RefusesToMake D.Disk files) }
 {
     let conn = open_on(alloc, files, options)?;

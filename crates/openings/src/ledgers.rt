@@ -1,18 +1,19 @@
 //! Ledgers in two files, opened once all of them was looked at.
 
 ghost use Rattle.std.specs.Prelude.{IfOk, IfErr};
-ghost use Rattle.sqlite.specs.Files.{file_state};
 ghost use Rattle.stored_ledgers.specs.Resting.{IsServing};
 ghost use Rattle.openings.specs.Calls.{AreUsable, RefusesBy, StandsOn};
+ghost use Rattle.openings.specs.OpenTables.{open_state};
 ghost use Rattle.openings.specs.Opened.{WasOpenedOn};
 ghost use Rattle.openings.specs.Told.{IsSoundLedger, Warrants};
 
 use crate::auditing::Audit;
 use crate::inspecting::{Inspection, open_telling};
+use crate::open_tables::OpenTables;
 use crate::opened::examine;
 use crate::opening::OpenFault;
 use crate::refused::Refused;
-use sqlite::{Alter, Connection, FileStore, Files, Options};
+use sqlite::{Alter, Connection, Files, Options};
 use sqlite_disk::Disk;
 use std::alloc::Global;
 use stored_ledgers::batches::DueSets;
@@ -51,11 +52,11 @@ pub fn open_ledger<D: Disk + Drop, A: Audit>(
     files: Files<D>,
     options: Options,
     audit: &A,
-) -> Result<(Connection<FileStore<D>>, DueSets), (Refused, Files<D>)>
+) -> Result<(OpenTables<D>, DueSets), (Refused, Files<D>)>
     requires { AreUsable D.Disk files }
-    ensures serves { IfOk result (λ it. IsServing it.1 (file_state it.0)) }
+    ensures serves { IfOk result (λ it. IsServing it.1 (open_state it.0)) }
     ensures opened { IfOk result (λ it. StandsOn D.Disk files
-        (λ image s. WasOpenedOn image s × IsSoundLedger s.now) (file_state it.0)) }
+        (λ image s. WasOpenedOn image s × IsSoundLedger s.now) (open_state it.0)) }
     ensures refused { IfErr result (RefusesBy D.Disk Warrants files) }
 {
     open_telling(alloc, files, options, &ServedInspection { audit })

@@ -9,6 +9,7 @@ mod due_sets;
 pub mod inspecting;
 pub mod laws;
 pub mod ledgers;
+pub mod open_tables;
 pub mod opened;
 pub mod opening;
 pub mod refused;

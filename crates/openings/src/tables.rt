@@ -3,36 +3,32 @@
 ghost use Rattle.ledger_sql.specs.Effects.{StartsAs};
 ghost use Rattle.ledger_sql.specs.Schema.{list_schema};
 ghost use Rattle.rows.specs.TypedRows.{lists_of};
-ghost use Rattle.openings.specs.Calls.{ReadsTables};
+ghost use Rattle.openings.specs.Calls.{LeavesTablesRead};
 ghost use Rattle.openings.specs.Tables.{AreTenantRows, HasTables};
 
-use ledger_sql::listing::{
-    list_accounts, list_balances, list_clocks, list_failed, list_history, list_statuses,
-    list_transfers,
-};
+use ledger_tables::LedgerTables;
 use records::Unavailable;
 use rows::TenantRows;
-use sqlite::{Alter, Connection};
 use std::alloc::Global;
 
 /// A tenant's rows of the tables of a file of this version. No row of another tenant is read.
-pub fn read_tenant<S: Alter>(
+pub fn read_tenant<T: LedgerTables>(
     alloc: Global,
-    conn: &mut Connection<S>,
+    tables: &mut T,
     version: u32,
     tenant: i64,
 ) -> Result<TenantRows, Unavailable>
-    ensures { ReadsTables (HasTables version)
+    ensures { LeavesTablesRead (HasTables version)
         (λ trees rows. AreTenantRows version tenant trees (lists_of rows))
-        S.Store conn.old conn.new result }
+        (T.state tables.old) (T.state tables.new) result }
 {
-    let entries = read_entries(alloc, conn, tenant)?;
+    let entries = read_entries(alloc, tables, tenant)?;
     if version < 2 {
         return Ok(entries);
     }
-    let balances = list_balances(alloc, conn, tenant)?;
-    let statuses = list_statuses(alloc, conn, tenant)?;
-    let history = list_history(alloc, conn, tenant)?;
+    let balances = tables.list_balances(alloc, tenant)?;
+    let statuses = tables.list_statuses(alloc, tenant)?;
+    let history = tables.list_history(alloc, tenant)?;
     let derived = TenantRows {
         balances,
         statuses,
@@ -42,23 +38,23 @@ pub fn read_tenant<S: Alter>(
     if version < 3 {
         return Ok(derived);
     }
-    let failed = list_failed(alloc, conn, tenant)?;
+    let failed = tables.list_failed(alloc, tenant)?;
     Ok(TenantRows { failed, ..derived })
 }
 
 /// Those of version 1.
-fn read_entries<S: Alter>(
+fn read_entries<T: LedgerTables>(
     alloc: Global,
-    conn: &mut Connection<S>,
+    tables: &mut T,
     tenant: i64,
 ) -> Result<TenantRows, Unavailable>
-    ensures { ReadsTables (StartsAs list_schema.tables)
+    ensures { LeavesTablesRead (StartsAs list_schema.tables)
         (λ trees rows. AreTenantRows 1 tenant trees (lists_of rows))
-        S.Store conn.old conn.new result }
+        (T.state tables.old) (T.state tables.new) result }
 {
-    let clocks = list_clocks(alloc, conn, tenant)?;
-    let accounts = list_accounts(alloc, conn, tenant)?;
-    let transfers = list_transfers(alloc, conn, tenant)?;
+    let clocks = tables.list_clocks(alloc, tenant)?;
+    let accounts = tables.list_accounts(alloc, tenant)?;
+    let transfers = tables.list_transfers(alloc, tenant)?;
     Ok(TenantRows {
         clocks,
         accounts,

@@ -3,11 +3,8 @@ use Rattle.std.proofs.Common.{◌≡◌, ◌≢◌, ◌↔◌, inl, inr, ℕ, Bo
 use Rattle.std.proofs.Common.{Ok, Err, refl, sym, ap, subst, ◌∙◌}
 use Rattle.records.specs.declared.unavailable.Unavailable.TheVariants.{Disk as DiskFailed}
 use Rattle.sqlite_disk.specs.declared.Disk as disk
-use Rattle.sqlite_store.specs.declared.store.FileStore.{FileStore}
 use Rattle.sqlite_trees.specs.Tree.{Trees}
 use Rattle.sqlite.specs.Effect.{Database}
-use Rattle.sqlite.specs.Files.{file_state}
-use Rattle.sqlite.specs.Held.{Held}
 use Rattle.chain.specs.Ledgers.{Tenants, KeepsAll}
 use Rattle.stored_ledgers.specs.declared.joining.AddTenant.{AddTenant}
 use Rattle.stored_ledgers.specs.declared.joining.AddTenant.TheVariants as add
@@ -27,6 +24,7 @@ use Rattle.service.specs.DeedLaws.{key_changed}
 use Rattle.service.specs.Courses as course
 use Rattle.service.specs.Courses.{Ending, Tried, Happens}
 use Rattle.service.specs.Openings.{run_meaning, IsSettled, Moves, FoundAfter, As_now, As_before, As_done}
+use Rattle.openings.specs.OpenTables.{OpenTables, open_state}
 use Rattle.store.specs.Deeds.{ending_of, key_ending}
 use Rattle.store.specs.Names.{names_at}
 use Rattle.store.specs.StoreLaws.{store_meaning, finds_itself}
@@ -91,27 +89,27 @@ keying_in law name digest old new (Err (key.Unavailable why)) ledgers told = kee
 module _ {D : Type 0} {g : disk.Ghosts D} where
   -- what is so of two open databases that hold ledgers is so of their tenants
   now_at : (P : Place D g → Tenants → Type 0) (Told : Database → Database → Type 0)
-      → ((conn : Held (FileStore D g)) (new : Database) → HoldsLedgers (file_state conn).now
-      → Told (file_state conn).now new → P (at.Open conn) (tenants_in new.trees))
+      → ((tables : OpenTables D g) (new : Database) → HoldsLedgers (open_state tables).now
+      → Told (open_state tables).now new → P (at.Open tables) (tenants_in new.trees))
       → (ready : Bool) (sets : DueSets) (old new : Place D g) → IsUsableAt ready sets old
       → IsLiveAt old → IsLiveAt new → OfDatabaseAt (λ before. OfDatabaseAt (Told before) new) old
       → P old (tenants_at new)
-  now_at P Told so ready sets (at.Open conn) (at.Open conn') usable live live' told =
-      so conn (file_state conn').now (usable.0 live).ledgers told
-  now_at P Told so ready sets (at.Open conn) (at.Shut files) usable live live' told = absurd live'
+  now_at P Told so ready sets (at.Open tables) (at.Open tables') usable live live' told =
+      so tables (open_state tables').now (usable.0 live).ledgers told
+  now_at P Told so ready sets (at.Open tables) (at.Shut files) usable live live' told = absurd live'
   now_at P Told so ready sets (at.Shut files) new usable live live' told = absurd live
 
   -- and so of one that a crash leaves
   crashed_at : (P : Place D g → Tenants → Type 0) (After : Database → Trees → Type 0)
-      → ((conn : Held (FileStore D g)) (db : Trees) → HoldsLedgers (file_state conn).now
-      → After (file_state conn).now db → P (at.Open conn) (tenants_in db))
+      → ((tables : OpenTables D g) (db : Trees) → HoldsLedgers (open_state tables).now
+      → After (open_state tables).now db → P (at.Open tables) (tenants_in db))
       → (ready : Bool) (sets : DueSets) (place : Place D g) → IsUsableAt ready sets place
       → IsLiveAt place → (db : Trees) (found : Tenants)
       → ((d : List ℕ) → found d ≡ tenants_in db d) → OfDatabaseAt (λ was. After was db) place
       → P place found
-  crashed_at P After so ready sets (at.Open conn) usable live db found agrees after =
+  crashed_at P After so ready sets (at.Open tables) usable live db found agrees after =
       let same : tenants_in db ≡ found = λ i digest. sym (agrees digest) i in
-      subst (P (at.Open conn)) same (so conn db (usable.0 live).ledgers after)
+      subst (P (at.Open tables)) same (so tables db (usable.0 live).ledgers after)
   crashed_at P After so ready sets (at.Shut files) usable live db found agrees after = absurd live
 
   -- a deed that was tried on a store that is settled, and what a crash in it may leave
@@ -150,12 +148,12 @@ module _ {D : Type 0} {g : disk.Ghosts D} where
   pub record IsDeedOf {F : Type 0} (deed_of : Place D g → Deed) (ending : Result (Unit {0}) F → Ending) (fault : F)
       (Told : Database → Database → Result (Unit {0}) F → Type 0) (After : Database → Trees → Type 0) : Type 0 where
     pub unavailable : ending (Err fault) ≡ course.Unavailable
-    pub done : (conn : Held (FileStore D g)) (db : Trees) → HoldsLedgers (file_state conn).now
-        → After (file_state conn).now db
-        → IsDeedDone (deed_of (at.Open conn)) (tenants_in (file_state conn).now.trees) (tenants_in db)
-    pub tried : (conn : Held (FileStore D g)) (new : Database) (result : Result (Unit {0}) F)
-        → HoldsLedgers (file_state conn).now → Told (file_state conn).now new result
-        → Happens (tenants_in (file_state conn).now.trees) (Tried (deed_of (at.Open conn)) (ending result))
+    pub done : (tables : OpenTables D g) (db : Trees) → HoldsLedgers (open_state tables).now
+        → After (open_state tables).now db
+        → IsDeedDone (deed_of (at.Open tables)) (tenants_in (open_state tables).now.trees) (tenants_in db)
+    pub tried : (tables : OpenTables D g) (new : Database) (result : Result (Unit {0}) F)
+        → HoldsLedgers (open_state tables).now → Told (open_state tables).now new result
+        → Happens (tenants_in (open_state tables).now.trees) (Tried (deed_of (at.Open tables)) (ending result))
         (tenants_in new.trees)
 
   -- the adding of a tenant
@@ -164,9 +162,9 @@ module _ {D : Type 0} {g : disk.Ghosts D} where
       (Joined name digest)
   joining_deed law name digest = record {
     unavailable = refl;
-    done = λ conn db. joined_in law name digest (file_state conn).now
-        (record { schema = (file_state conn).now.schema; trees = db });
-    tried = λ conn. joining_in law name digest (file_state conn).now;
+    done = λ tables db. joined_in law name digest (open_state tables).now
+        (record { schema = (open_state tables).now.schema; trees = db });
+    tried = λ tables. joining_in law name digest (open_state tables).now;
   }
 
   -- the change of a tenant's key: of whoever has the name
@@ -175,9 +173,9 @@ module _ {D : Type 0} {g : disk.Ghosts D} where
       (key.Unavailable DiskFailed) (HasKeyed name digest) (Keyed name digest)
   keying_deed law name digest = record {
     unavailable = refl;
-    done = λ conn db. keyed_in law name digest (file_state conn).now
-        (record { schema = (file_state conn).now.schema; trees = db });
-    tried = λ conn. keying_in law name digest (file_state conn).now;
+    done = λ tables db. keyed_in law name digest (open_state tables).now
+        (record { schema = (open_state tables).now.schema; trees = db });
+    tried = λ tables. keying_in law name digest (open_state tables).now;
   }
 
   -- what such a change leaves of a store that is open
@@ -191,32 +189,32 @@ module _ {D : Type 0} {g : disk.Ghosts D} where
 
   module _ {F R : Type 0} {deed_of : Place D g → Deed} {ending : Result (Unit {0}) F → Ending} {fault : F}
       {Told : Database → Database → Result (Unit {0}) F → Type 0} {After : Database → Trees → Type 0}
-      (change : IsDeedOf deed_of ending fault Told After) (old : Store D g) (conn conn' : Held (FileStore D g))
-      (is_open : old.place ≡ at.Open conn) (ready : old.ready ≡ true) {failed : Bool} {made : Answer (Unit {0}) R}
+      (change : IsDeedOf deed_of ending fault Told After) (old : Store D g) (tables tables' : OpenTables D g)
+      (is_open : old.place ≡ at.Open tables) (ready : old.ready ≡ true) {failed : Bool} {made : Answer (Unit {0}) R}
       (fault_told : IsTrue failed ↔ (made ≡ Err DiskFailed)) (usable : IsUsable old)
       (words : Answer (Unit {0}) R → Result (Unit {0}) F) {result : Result (Unit {0}) F} (is : result ≡ words made)
       (in_words : words (Err DiskFailed) ≡ Err fault) (only : result ≡ Err fault → made ≡ Err DiskFailed)
       {sets : DueSets} (changed : ChangesTenants DiskFailed (λ before after. Told before after (words made)) After sets
-      (file_state conn) (file_state conn') made)
-      (settled : IsSettledAt (at.Open conn')) where
+      (open_state tables) (open_state tables') made)
+      (settled : IsSettledAt (at.Open tables')) where
     abbrev new : Store D g
-    new = record old { place = at.Open conn'; ready = not failed; due = sets }
+    new = record old { place = at.Open tables'; ready = not failed; due = sets }
 
     tells_so : IsLive new → OfDatabases (λ before after. Told before after result) old new
     tells_so live =
-        subst (OfDatabaseAt (λ before. Told before (file_state conn').now result)) (sym is_open)
-        (subst (Told (file_state conn).now (file_state conn').now) (sym is) (changed.told live))
+        subst (OfDatabaseAt (λ before. Told before (open_state tables').now result)) (sym is_open)
+        (subst (Told (open_state tables).now (open_state tables').now) (sym is) (changed.told live))
 
     answers_so : AnswersUnless fault old new result
     answers_so =
         answers_as g fault old new made result (only, λ disk. is ∙ ap words disk ∙ in_words) ready
-        (serves_open g made failed old new conn conn' is_open refl ready refl fault_told usable
+        (serves_open g made failed old new tables tables' is_open refl ready refl fault_told usable
         changed.serves changed.survives)
 
     pub deed_made : IsDeedMade deed_of ending fault Told After old new result
     deed_made =
         let finds : Goes old new (λ db. OfDatabase (λ was. After was db) old) =
-        finds_open g After old.place conn conn' is_open changed.survives in record {
+        finds_open g After old.place tables tables' is_open changed.survives in record {
           told = tells_so;
           finds = finds;
           answers = answers_so;
@@ -227,7 +225,7 @@ module _ {D : Type 0} {g : disk.Ghosts D} where
               old.ready old.due old.place usable)
               (finds_itself new settled answers_so.usable) (ending result)
               (λ live. now_at (λ place found. Happens (tenants_at place) (Tried (deed_of place) (ending result)) found)
-              (λ before after. Told before after result) (λ conn after. change.tried conn after result)
+              (λ before after. Told before after result) (λ tables after. change.tried tables after result)
               old.ready old.due old.place new.place usable (answers_so.follows.lived live) live (tells_so live))
               (λ honest differs. answers_so.open_yet honest (λ same. differs (ap ending same ∙ change.unavailable)));
         }

@@ -6,7 +6,6 @@ use Rattle.records.specs.declared.unavailable.Unavailable.TheVariants.{Disk as D
 use Rattle.records.specs.Machine.{Machine}
 use Rattle.sqlite_disk.specs.declared.Disk as disk
 use Rattle.sqlite.specs.Effect.{Database}
-use Rattle.sqlite.specs.Files.{file_state}
 use Rattle.sqlite_trees.specs.Tree.{Trees}
 use Rattle.chain.specs.declared.ledgers.BatchFault.{BatchFault}
 use Rattle.chain.specs.declared.ledgers.BatchFault.TheVariants as batch_fault
@@ -17,6 +16,7 @@ use Rattle.stored_ledgers.specs.Directory.{tenants_in}
 use Rattle.stored_ledgers.specs.DueSets.{DueSets}
 use Rattle.stored_ledgers.specs.Outcomes.{IsAfterBatch, KeepsTables}
 use Rattle.stored_ledgers.specs.Rounds.{IsAfterRound}
+use Rattle.openings.specs.OpenTables.{open_state}
 use Rattle.store.specs.StoreLaws.{store_meaning}
 use Rattle.store.specs.Stores.{IsUsable, IsUsableAt, IsLive, IsLiveAt, IsHonest, IsHonestAt, tenants_of, tenants_at}
 use Rattle.store.specs.Stores.{FindsTenants, StoreFollows, Goes, OfDatabase, OfDatabaseAt, AnswersUnless, ReadsStore, may_find}
@@ -42,7 +42,7 @@ module _ {D : Type 0} {g : disk.Ghosts D} where
   live_at :
       (ready : Bool) (sets : DueSets) (place : Place D g) → ready ≡ true →
       IsUsableAt ready sets place → IsHonestAt place → IsLiveAt place
-  live_at ready sets (at.Open conn) answers usable clean = (clean, usable.1 answers clean)
+  live_at ready sets (at.Open tables) answers usable clean = (clean, usable.1 answers clean)
   live_at ready sets (at.Shut files) answers usable clean = absurd (both_ways ready usable answers)
 
   leads_at :
@@ -50,7 +50,7 @@ module _ {D : Type 0} {g : disk.Ghosts D} where
       (db : Trees) (found : Tenants) → ((d : List ℕ) → found d ≡ tenants_in db d) →
       OfDatabaseAt (λ old. IsAfterBatch gives digest old db) place →
       LeadsBy gives digest (tenants_at place) found
-  leads_at gives digest (at.Open conn) db found agrees after = (
+  leads_at gives digest (at.Open tables) db found agrees after = (
     after.output,
     record {
       before = after.done.before;
@@ -68,10 +68,10 @@ module _ {D : Type 0} {g : disk.Ghosts D} where
       (found : Tenants) → ((d : List ℕ) → found d ≡ tenants_in db d) →
       OfDatabaseAt (λ old. IsAfterRound gives old db) place →
       LeadsByRound gives (tenants_at place) found
-  round_at gives (at.Open conn) db found agrees after =
+  round_at gives (at.Open tables) db found agrees after =
       let same : tenants_in db ≡ found = λ i digest. sym (agrees digest) i in (
         after.output,
-        subst (gives (tenants_in (file_state conn).now.trees) after.output) same after.done,
+        subst (gives (tenants_in (open_state tables).now.trees) after.output) same after.done,
       )
   round_at gives (at.Shut files) db found agrees after = absurd after
 
@@ -79,12 +79,12 @@ module _ {D : Type 0} {g : disk.Ghosts D} where
   pub still_keeps : (old new : Place D g)
       → OfDatabaseAt (λ before. OfDatabaseAt (λ after. after ≡ before) new) old
       → OfDatabaseAt (λ before. OfDatabaseAt (KeepsTables before) new) old
-  still_keeps (at.Open conn) (at.Open conn') same = record {
+  still_keeps (at.Open tables) (at.Open tables') same = record {
     schema = ap (λ (db : Database). db.schema) same;
     directory = ap (λ (db : Database). directory_rows db.trees) same;
     strangers = ap strangers_in same;
   }
-  still_keeps (at.Open conn) (at.Shut files) same = absurd same
+  still_keeps (at.Open tables) (at.Shut files) same = absurd same
   still_keeps (at.Shut files) new same = absurd same
 
   -- what a call may leave in the files leads to the machines of its work
@@ -122,8 +122,8 @@ module _ {D : Type 0} {g : disk.Ghosts D} where
       (ready : Bool) (sets : DueSets) (place : Place D g) → IsSettledAt place →
       IsUsableAt ready sets place → IsLiveAt place →
       OfDatabaseAt (λ db. may_find_at place db.trees) place
-  stays_at ready sets (at.Open conn) settled usable live =
-      subst (λ (db : Database). (file_state conn).may_leave db.trees)
+  stays_at ready sets (at.Open tables) settled usable live =
+      subst (λ (db : Database). (open_state tables).may_leave db.trees)
       (sym (usable.0 live).quiet.settled) (settled.stays live.1)
   stays_at ready sets (at.Shut files) settled usable live = absurd live
 
@@ -134,8 +134,8 @@ module _ {D : Type 0} {g : disk.Ghosts D} where
       (place found : Place D g) → OfDatabaseAt (λ now. may_find_at found now.trees) place
       → OfDatabaseAt (λ was. After was db) place
       → (was : Trees) × may_find_at found was × AreKeptAt place was db
-  kept_in After db keeps (at.Open conn) found stays after =
-      ((file_state conn).now.trees, stays, keeps (file_state conn).now after)
+  kept_in After db keeps (at.Open tables) found stays after =
+      ((open_state tables).now.trees, stays, keeps (open_state tables).now after)
   kept_in After db keeps (at.Shut files) found stays after = absurd after
 
   -- what a call may leave in the files has the directory and the tables of strangers of what might

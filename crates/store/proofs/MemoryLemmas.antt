@@ -13,6 +13,6 @@ both one other is_one is_other = let e = is_one in let f = is_other in cc
 pub place_is_honest :
     {D : Type 0} {g : disk.Ghosts D} → ((file : D) → g.is_clean file ≡ true) →
     (place : Place D g) → IsHonestAt place
-place_is_honest always (at.Open conn) =
-    no_doubt _ (subst IsTrue (sym (clean_is conn.store.pool)) (both _ _ (always _) (always _)))
+place_is_honest always (at.Open tables) =
+    no_doubt _ (subst IsTrue (sym (clean_is tables.store.pool)) (both _ _ (always _) (always _)))
 place_is_honest always (at.Shut files) = both _ _ (always files.log) (always files.db)

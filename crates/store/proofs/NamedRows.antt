@@ -1,102 +1,28 @@
 -- Each name in a directory goes together with the digest of one tenant.
-use Rattle.std.proofs.Common.{◌≡◌, ◌≢◌, ◌&&◌, ◌≤◌, inl, inr, ℕ, Bool, true, false, not, List, [], ◌∷◌, Option, Some, None}
-use Rattle.std.proofs.Common.{drop, filter, length, map, option_map, unwrap_or, refl, sym, ap, subst, ◌∙◌, arith}
+use Rattle.std.proofs.Common.{◌≡◌, ◌≢◌, ◌≤◌, inl, inr, ℕ, Bool, true, List, [], ◌∷◌, Option, Some, None}
+use Rattle.std.proofs.Common.{filter, length, option_map, unwrap_or, refl, sym, ap, subst, ◌∙◌, arith}
 use Rattle.std.specs.List.{AllByRecursion}
-use Rattle.std.proofs.lemmas.Bool.{and_parts, true≢false}
 use Rattle.std.proofs.lemmas.Slice.Eq.{bytes_eq-Decides}
 use Rattle.sqlite_value.specs.declared.value.Value.{Value}
 use Rattle.sqlite_value.specs.declared.value.Value.TheVariants.{Text, Blob}
 use Rattle.sqlite_value.specs.Order.{Row, column}
-use Rattle.sqlite_sql.specs.Ops.{is_null}
 use Rattle.sqlite_trees.specs.Tree.{Trees}
-use Rattle.sqlite_schema.specs.Rules.{are_present, are_typed, is_of, passes}
-use Rattle.sqlite_schema.specs.declared.schema.Kind.TheVariants as kind
-use Rattle.sqlite_schema.specs.declared.schema.Constraint.TheVariants.{Datatype, NotNull}
-use Rattle.sqlite_schema.specs.declared.schema.Schema.{Schema}
-use Rattle.sqlite_schema.specs.declared.schema.Table.{Table}
 use Rattle.sqlite_rules.specs.Lists.{Has}
-use Rattle.sqlite_rules.proofs.ListLemmas.{all_has, all_from, has_filtered, has_kept, has_left}
-use Rattle.sqlite_catalog.specs.Listing.{IsSound}
-use Rattle.sqlite.specs.Effect.{Database, IsDatabase}
-use Rattle.sqlite.specs.Files.{file_state}
-use Rattle.sqlite.specs.Held.{Held}
-use Rattle.sqlite.specs.State.{IsLive as KeepsRules}
+use Rattle.sqlite_rules.proofs.ListLemmas.{all_has, has_filtered, has_kept}
+use Rattle.sqlite.specs.Effect.{Database}
 use Rattle.sqlite_disk.specs.declared.Disk as disk
-use Rattle.sqlite_store.specs.declared.store.FileStore.{FileStore}
-use Rattle.ledger_sql.specs.Effects.{IsLedger}
-use Rattle.ledger_sql.specs.Schema.{ledger_schema, tenant_table, tenant_tree}
-use Rattle.ledger_sql.specs.TableRows.{cells_from, directory_rows, is_blob, is_text}
+use Rattle.ledger_sql.specs.TableRows.{directory_rows, is_blob, is_text}
 use Rattle.stored_tables.specs.MachineOf.{machine_of}
 use Rattle.stored_ledgers.specs.DueSets.{DueSets}
-use Rattle.stored_ledgers.specs.Directory.{bytes_in, first_number, number_of, tenants_in, with_digest}
+use Rattle.stored_ledgers.specs.Directory.{IsEntry, bytes_in, first_number, number_of, tenants_in, with_digest}
 use Rattle.stored_ledgers.specs.Ledger.{HoldsLedgers}
 use Rattle.stored_ledgers.specs.Names.{first_named, names_in}
+use Rattle.openings.specs.OpenTables.{open_state}
 use Rattle.store.specs.NameLaws.{held}
 use Rattle.store.specs.Names.{AreNamed, names_at}
 use Rattle.store.specs.Stores.{IsLiveAt, IsUsableAt, tenants_at}
 use Rattle.store.specs.declared.place.Place.{Place}
 use Rattle.store.specs.declared.place.Place.TheVariants as at
-
--- the table as it stands in the schema
-abbrev directory : Table
-directory = record tenant_table { tree = tenant_tree }
-
-abbrev entry : Row → Row
-entry row = column row 0 ∷ cells_from 2 2 row
-
--- the row has a name and the bytes of a digest
-record IsEntry (row : Row) : Type 0 where
-  pub name : List ℕ
-  pub named : column row 1 ≡ Text name
-  pub digest : List ℕ
-  pub known : column row 2 ≡ Blob digest
-
-of_blob : (v : Value) → is_of kind.Blob v ≡ true → is_null v ≡ false
-    → (bytes : List ℕ) × (v ≡ Blob bytes)
-of_blob (Blob bytes) typed present = (bytes, refl)
-of_blob v typed present = absurd (cc)
-
-of_text : (v : Value) → is_of kind.Text v ≡ true → is_null v ≡ false
-    → (text : List ℕ) × (v ≡ Text text)
-of_text (Text text) typed present = (text, refl)
-of_text v typed present = absurd (cc)
-
-not_null : (b : Bool) → not b ≡ true → b ≡ false
-not_null false is = refl
-not_null true is = absurd (cc)
-
-second_of : (a b c : Bool) → (a && (b && c)) ≡ true → b ≡ true
-second_of a b c is = (and_parts b c (and_parts a (b && c) is).1).0
-
-third_of : (a b c d : Bool) → (a && (b && (c && d))) ≡ true → c ≡ true
-third_of a b c d is = second_of b c d (and_parts a (b && (c && d)) is).1
-
--- the second and the third column are not NULL
-second_there : (row : Row) → are_present directory.key 0 directory.columns row ≡ true
-    → is_null (column row 2) ≡ false
-second_there row present =
-    not_null (is_null (column row 2))
-    (second_of true (not (is_null (column row 2))) (not (is_null (column row 3)) && true) present)
-
-third_there : (row : Row) → are_present directory.key 0 directory.columns row ≡ true
-    → is_null (column row 3) ≡ false
-third_there row present =
-    not_null (is_null (column row 3))
-    (third_of true (not (is_null (column row 2))) (not (is_null (column row 3))) true present)
-
-is_entry : (row : Row) → are_typed directory.key 0 directory.columns (drop 1 row) ≡ true
-    → is_null (column row 2) ≡ false → is_null (column row 3) ≡ false → IsEntry (entry row)
-is_entry [] typed named there = absurd (true≢false there)
-is_entry (number ∷ []) typed named there = absurd (true≢false there)
-is_entry (number ∷ key ∷ []) typed named there = absurd (true≢false there)
-is_entry (number ∷ key ∷ name ∷ []) typed named there = absurd (true≢false there)
-is_entry (number ∷ key ∷ name ∷ digest ∷ more) typed named there =
-    let rest = are_typed directory.key 3 [] more in
-    let text = of_text name
-    (second_of (is_null key) (is_of kind.Text name) (is_of kind.Blob digest && rest) typed) named in
-    let bytes = of_blob digest
-    (third_of (is_null key) (is_of kind.Text name) (is_of kind.Blob digest) rest typed) there in
-    record { name = text.0; named = text.1; digest = bytes.0; known = bytes.1 }
 
 -- a row that is the first of some
 first_of : (found : List Row) (digest : List ℕ) → first_named found ≡ Some digest
@@ -159,34 +85,10 @@ same_text (Text text) a b is also =
     sym ((bytes_eq-Decides text b).0 also) ∙ (bytes_eq-Decides text a).0 is
 same_text v a b is also = absurd (cc)
 
-module _ (schema : Schema) (trees : Trees) (ledger : IsLedger schema) (sound : IsSound schema trees) where
-  listed : Has schema.tables directory
-  listed =
-      subst (λ ts. Has ts directory) (sym ledger.tables)
-      (has_left ledger_schema.tables ledger.more directory (inr (inl refl)))
-
-  have_entries : AllByRecursion IsEntry (directory_rows trees)
-  have_entries = all_made (trees tenant_tree)
-      (all_from (λ row. IsEntry (entry row)) (trees tenant_tree) (λ row here.
-      let present = all_has (λ row. passes NotNull schema trees directory row ≡ true) (trees tenant_tree)
-      row (all_has (λ t. AllByRecursion (λ row. passes NotNull schema trees t row ≡ true) (trees t.tree))
-      schema.tables directory (sound.obeys.rules NotNull) listed) here in
-      is_entry row
-      (and_parts _ _ (all_has (λ row. passes Datatype schema trees directory row ≡ true) (trees tenant_tree)
-      row (all_has (λ t. AllByRecursion (λ row. passes Datatype schema trees t row ≡ true) (trees t.tree))
-      schema.tables directory (sound.obeys.rules Datatype) listed) here)).0
-      (second_there row present) (third_there row present)))
-    where
-      all_made : (rows : List Row) → AllByRecursion (λ row. IsEntry (entry row)) rows
-          → AllByRecursion IsEntry (map entry rows)
-      all_made [] all = tt
-      all_made (row ∷ rows) all = (all.0, all_made rows all.1)
-
--- so it is in a database that holds ledgers and keeps the rules of its schema
-pub are_named : (db : Database) → HoldsLedgers db → IsDatabase db
-    → AreNamed (names_in db.trees) (tenants_in db.trees)
-are_named db ledgers sound =
-    let all = have_entries db.schema db.trees ledgers.schema sound in
+-- so it is in a database that holds ledgers
+pub are_named : (db : Database) → HoldsLedgers db → AreNamed (names_in db.trees) (tenants_in db.trees)
+are_named db ledgers =
+    let all = ledgers.entries in
     record {
       there = λ name digest is.
           let row = named_row name (directory_rows db.trees) all digest is in
@@ -217,10 +119,8 @@ are_named db ledgers sound =
         (ap (is_blob digest) is ∙ (bytes_eq-Decides digest digest).1 refl)
 
 -- so it is in an open store
-pub named_open : {D : Type 0} (g : disk.Ghosts D) (ready : Bool) (sets : DueSets) (place : Place D g)
-    (conn : Held (FileStore D g)) → place ≡ at.Open conn → KeepsRules (file_state conn)
+pub named_at : {D : Type 0} {g : disk.Ghosts D} (ready : Bool) (sets : DueSets) (place : Place D g)
     → IsUsableAt ready sets place → IsLiveAt place → AreNamed (names_at place) (tenants_at place)
-named_open {D} g ready sets place conn is rules =
-    subst (λ (place : Place D g). IsUsableAt ready sets place → IsLiveAt place
-    → AreNamed (names_at place) (tenants_at place)) (sym is)
-    (λ usable live. are_named (file_state conn).now (usable.0 live).ledgers (rules live.1).0)
+named_at ready sets (at.Open tables) usable live =
+    are_named (open_state tables).now (usable.0 live).ledgers
+named_at ready sets (at.Shut files) usable live = absurd live

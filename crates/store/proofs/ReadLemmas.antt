@@ -4,10 +4,7 @@ use Rattle.std.proofs.lemmas.Bool.{both_ways}
 use Rattle.records.specs.declared.unavailable.Unavailable.{Unavailable}
 use Rattle.records.specs.declared.unavailable.Unavailable.TheVariants.{Disk as DiskFailed}
 use Rattle.sqlite_disk.specs.declared.Disk as disk
-use Rattle.sqlite_store.specs.declared.store.FileStore.{FileStore}
 use Rattle.sqlite.specs.Effect.{Database}
-use Rattle.sqlite.specs.Files.{file_state}
-use Rattle.sqlite.specs.Held.{Held}
 use Rattle.sqlite.specs.State.{State, HasCleanDisk, Survives}
 use Rattle.sqlite_trees.specs.Tree.{Trees}
 use Rattle.ledger_sql.specs.Frames.{Live, Follows}
@@ -16,6 +13,7 @@ use Rattle.stored_ledgers.specs.Directory.{tenants_in}
 use Rattle.stored_ledgers.specs.DueSets.{DueSets}
 use Rattle.stored_ledgers.specs.Looks.{ReadsAtRest}
 use Rattle.stored_ledgers.specs.Resting.{IsResting, IsServing, HoldsHere}
+use Rattle.openings.specs.OpenTables.{OpenTables, open_state}
 use Rattle.store.specs.Stores.{IsUsable, IsUsableAt, IsLiveAt, IsHonestAt, OfDatabaseAt, tenants_at, may_find_at, AnswersUnless, ReadsStore}
 use Rattle.store.specs.declared.place.Place.{Place}
 use Rattle.store.specs.declared.place.Place.TheVariants as at
@@ -35,25 +33,25 @@ holds_here sets s serves clean =
 
 module _ {D : Type 0} (g : disk.Ghosts D) where
   -- a store that answers serves
-  pub is_serving : (ready : Bool) (sets : DueSets) (place : Place D g) (conn : Held (FileStore D g))
-      → place ≡ at.Open conn → ready ≡ true → IsUsableAt ready sets place → IsServing sets (file_state conn)
-  is_serving ready sets place conn is answers usable clean =
-      let here : IsUsableAt ready sets (at.Open conn) = subst (IsUsableAt ready sets) is usable in
+  pub is_serving : (ready : Bool) (sets : DueSets) (place : Place D g) (tables : OpenTables D g)
+      → place ≡ at.Open tables → ready ≡ true → IsUsableAt ready sets place → IsServing sets (open_state tables)
+  is_serving ready sets place tables is answers usable clean =
+      let here : IsUsableAt ready sets (at.Open tables) = subst (IsUsableAt ready sets) is usable in
       let is_open = here.1 answers clean in
       (is_open, here.0 (clean, is_open))
 
   -- so it holds ledgers, which may be read
-  pub reads_here : (self : Store D g) (conn : Held (FileStore D g)) → self.place ≡ at.Open conn
-      → self.ready ≡ true → IsUsable self → HoldsHere (file_state conn)
-  reads_here self conn is answers usable =
-      holds_here self.due (file_state conn) (is_serving self.ready self.due self.place conn is answers usable)
+  pub reads_here : (self : Store D g) (tables : OpenTables D g) → self.place ≡ at.Open tables
+      → self.ready ≡ true → IsUsable self → HoldsHere (open_state tables)
+  reads_here self tables is answers usable =
+      holds_here self.due (open_state tables) (is_serving self.ready self.due self.place tables is answers usable)
 
   module _ {T : Type 0} (result : Result T Unavailable) (fault : Bool) (old new : Store D g)
-      (conn conn' : Held (FileStore D g)) (old_is : old.place ≡ at.Open conn)
-      (new_is : new.place ≡ at.Open conn') (was_ready : old.ready ≡ true)
+      (tables tables' : OpenTables D g) (old_is : old.place ≡ at.Open tables)
+      (new_is : new.place ≡ at.Open tables') (was_ready : old.ready ≡ true)
       (now_ready : new.ready ≡ not fault) (told : IsTrue fault ↔ (result ≡ Err DiskFailed))
       (usable : IsUsable old) where
-    was_usable : IsUsableAt old.ready old.due (at.Open conn)
+    was_usable : IsUsableAt old.ready old.due (at.Open tables)
     was_usable = subst (IsUsableAt old.ready old.due) old_is usable
 
     unless_fault : new.ready ≡ true → result ≢ Err DiskFailed
@@ -62,9 +60,9 @@ module _ {D : Type 0} (g : disk.Ghosts D) where
         absurd (both_ways _ (now_ready ∙ ap not yes_fault) ready)
 
     -- a call on the open database, which then rests
-    answers_open : (HasCleanDisk (file_state conn') → HasCleanDisk (file_state conn))
-        → (HasCleanDisk (file_state conn') → result ≢ Err DiskFailed → IsTrue (file_state conn').is_open)
-        → (Live (file_state conn') → IsResting new.due (file_state conn')) → AnswersUnless DiskFailed old new result
+    answers_open : (HasCleanDisk (open_state tables') → HasCleanDisk (open_state tables))
+        → (HasCleanDisk (open_state tables') → result ≢ Err DiskFailed → IsTrue (open_state tables').is_open)
+        → (Live (open_state tables') → IsResting new.due (open_state tables')) → AnswersUnless DiskFailed old new result
     answers_open before is_open rests = record {
       usable = subst (IsUsableAt new.ready new.due) (sym new_is)
           (rests, λ ready clean. is_open clean (unless_fault ready));
@@ -81,25 +79,25 @@ module _ {D : Type 0} (g : disk.Ghosts D) where
     }
 
     -- so it is of one that changes the database and serves on
-    pub serves_open : {X : Trees → Type 0} → ServesOn DiskFailed new.due (file_state conn') result
-        → Survives (file_state conn) (file_state conn') X → AnswersUnless DiskFailed old new result
+    pub serves_open : {X : Trees → Type 0} → ServesOn DiskFailed new.due (open_state tables') result
+        → Survives (open_state tables) (open_state tables') X → AnswersUnless DiskFailed old new result
     serves_open serves survives =
         answers_open (λ clean. omega (arith, survives.clean, clean)) serves.is_open serves.resting
 
     -- and of one that reads it
-    module _ (same_due : new.due ≡ old.due) (reads : ReadsAtRest DiskFailed (file_state conn) (file_state conn') result) where
-      still_resting : Live (file_state conn') → IsResting new.due (file_state conn')
+    module _ (same_due : new.due ≡ old.due) (reads : ReadsAtRest DiskFailed (open_state tables) (open_state tables') result) where
+      still_resting : Live (open_state tables') → IsResting new.due (open_state tables')
       still_resting live =
-          subst (λ sets. IsResting sets (file_state conn')) (sym same_due)
-          (still_rests old.due (file_state conn) (file_state conn')
-          (was_usable.0 (live_before (file_state conn) (file_state conn') reads.follows live)) (reads.same live))
+          subst (λ sets. IsResting sets (open_state tables')) (sym same_due)
+          (still_rests old.due (open_state tables) (open_state tables')
+          (was_usable.0 (live_before (open_state tables) (open_state tables') reads.follows live)) (reads.same live))
 
       pub reads_open : ReadsStore old new result
       reads_open = record {
-        answers = answers_open (clean_before (file_state conn) (file_state conn') reads.follows) reads.is_open still_resting;
+        answers = answers_open (clean_before (open_state tables) (open_state tables') reads.follows) reads.is_open still_resting;
         unchanged = λ live.
             subst (λ place. OfDatabaseAt (λ before. OfDatabaseAt (λ after. after ≡ before) new.place) place)
-            (sym old_is) (subst (OfDatabaseAt (λ after. after ≡ (file_state conn).now)) (sym new_is)
+            (sym old_is) (subst (OfDatabaseAt (λ after. after ≡ (open_state tables).now)) (sym new_is)
             (reads.same (subst IsLiveAt new_is live)).now);
         same = λ live digest.
             ap (λ place. tenants_at place digest) new_is
@@ -111,11 +109,11 @@ module _ {D : Type 0} (g : disk.Ghosts D) where
       }
 
   -- what may be found behind a change of the open database
-  pub finds_open : (After : Database → Trees → Type 0) (place : Place D g) (conn conn' : Held (FileStore D g))
-      → place ≡ at.Open conn → Survives (file_state conn) (file_state conn') (After (file_state conn).now)
-      → HasCleanDisk (file_state conn') → (db : Trees) → (file_state conn').may_leave db
+  pub finds_open : (After : Database → Trees → Type 0) (place : Place D g) (tables tables' : OpenTables D g)
+      → place ≡ at.Open tables → Survives (open_state tables) (open_state tables') (After (open_state tables).now)
+      → HasCleanDisk (open_state tables') → (db : Trees) → (open_state tables').may_leave db
       → may_find_at place db ⊎ OfDatabaseAt (λ was. After was db) place
-  finds_open After place conn conn' is survives clean db may =
+  finds_open After place tables tables' is survives clean db may =
       subst (λ place. may_find_at place db ⊎ OfDatabaseAt (λ was. After was db) place) (sym is)
       (survives.crash clean db may)
 

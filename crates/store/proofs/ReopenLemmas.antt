@@ -8,9 +8,10 @@ use Rattle.sqlite_wal.specs.Files.{outcomes}
 use Rattle.sqlite_wal.specs.Reads.{AreClean}
 use Rattle.sqlite_wal.specs.Recovery.{Image}
 use Rattle.sqlite.specs.Effect.{Database}
-use Rattle.sqlite.specs.Files.{HoldsDatabase, AreFoundIn, image_of, file_state}
+use Rattle.sqlite.specs.Files.{HoldsDatabase, AreFoundIn, image_of}
 use Rattle.openings.specs.Damage.{Hold}
 use Rattle.openings.specs.Found.{FilesStay, AreOnlyThere, Yields}
+use Rattle.openings.specs.OpenTables.{open_state}
 use Rattle.store.specs.Stores.{IsHonest, IsHonestAt, IsOpenedAt, KeepsFound}
 use Rattle.store.specs.Stores.{FindsAt, GivesBack, GivesBackAt, left_in, may_find_at}
 use Rattle.store.specs.declared.place.Place.{Place}
@@ -22,9 +23,9 @@ module _ {D : Type 0} (g : disk.Ghosts D) (files : Files D) (clean : AreClean g 
   found_in : (place : Place D g) (image : Image) (trees : Trees) → GivesBackAt place files
       → outcomes g files.log files.db image → AreFoundIn image trees
       → ((other : Trees) → HoldsDatabase image other → trees ≡ other) → ∥ may_find_at place trees ∥₁
-  found_in (at.Open conn) image trees yields may reads holds =
+  found_in (at.Open tables) image trees yields may reads holds =
       ∥∥₁_map (yields clean image may)
-      (λ held. subst (file_state conn).may_leave (sym (holds held.0 held.2)) held.1)
+      (λ held. subst (open_state tables).may_leave (sym (holds held.0 held.2)) held.1)
   found_in (at.Shut kept) image trees same may reads holds =
       ∣ subst (λ (kept : Files D). left_in g kept trees) same (image, may, reads, holds) ∣₁
 
@@ -40,10 +41,10 @@ module _ {D : Type 0} (g : disk.Ghosts D) (stays : (file : D) → g.may_leave fi
   -- what it finds is one of those that might have been found
   pub finds_again : (old new : Place D g) → GivesBackAt old files → IsOpenedAt (image_of g files) new
       → FindsAt (may_find_at old) new
-  finds_again old (at.Open conn) back opened = (
+  finds_again old (at.Open tables) back opened = (
     opened.0.is_open,
     subst (λ (db : Database). ∥ may_find_at old db.trees ∥₁) (sym opened.0.quiet.settled)
-        (found_of old (file_state conn).committed.trees back
+        (found_of old (open_state tables).committed.trees back
         (record { reads = opened.0.found.reads; holds = opened.0.found.holds })),
   )
   finds_again old (at.Shut left) back opened = absurd opened

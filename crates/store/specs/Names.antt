@@ -1,9 +1,9 @@
 -- The names of a store's tenants.
 use Rattle.std.specs.Prelude.{◌≡◌, ◌≢◌, ℕ, List, [], Some, None, unwrap_or}
 use Rattle.sqlite_disk.specs.declared.Disk as disk
-use Rattle.sqlite.specs.Files.{file_state}
 use Rattle.chain.specs.Ledgers.{Tenants}
 use Rattle.stored_ledgers.specs.Names.{Names, names_in}
+use Rattle.openings.specs.OpenTables.{open_state}
 use Rattle.store.specs.declared.place.Place.{Place}
 use Rattle.store.specs.declared.place.Place.TheVariants as at
 use Rattle.store.specs.declared.store.Store.{Store}
@@ -20,7 +20,7 @@ pub record AreNamed (names : Names) (tenants : Tenants) : Type 0 where
 
 module _ {D : Type 0} {g : disk.Ghosts D} where
   abbrev pub names_at : Place D g → Names
-  names_at (at.Open conn) = names_in (file_state conn).now.trees
+  names_at (at.Open tables) = names_in (open_state tables).now.trees
   names_at (at.Shut files) = λ name. None
 
   -- the digest of the tenant with each name, if there is one

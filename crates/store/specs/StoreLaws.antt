@@ -8,18 +8,16 @@ use Rattle.chain.specs.Ledgers.{Tenants, KeepsAll, AreValid}
 use Rattle.sqlite_trees.specs.Tree.{Trees}
 use Rattle.sqlite_schema.specs.declared.schema.Schema.{Schema}
 use Rattle.sqlite.specs.Effect.{Database}
-use Rattle.sqlite.specs.Files.{file_state}
-use Rattle.sqlite.specs.Held.{Held}
-use Rattle.sqlite_store.specs.declared.store.FileStore.{FileStore}
 use Rattle.ledger_sql.specs.TableRows.{directory_rows}
 use Rattle.stored_ledgers.specs.Directory.{tenants_in, KeepsDirectory}
 use Rattle.stored_ledgers.specs.DueSets.{DueSets}
 use Rattle.stored_ledgers.specs.Outcomes.{KeepsTables}
 use Rattle.stored_ledgers.specs.RoundLaws.{valid_in}
+use Rattle.openings.specs.OpenTables.{OpenTables, open_state}
 use Rattle.store.specs.Stores.{IsUsable, IsUsableAt, IsLive, IsLiveAt, IsHonest, IsHonestAt, StoreFollows}
 use Rattle.store.specs.Stores.{tenants_of, tenants_at, may_find, may_find_at, FindsBy, FindsTenants, StoreFinds}
 use Rattle.store.specs.Stores.{FindsAt, IsSettledStore, IsSettledAt, Continues, OfDatabaseAt}
-use Rattle.store.specs.Stores.{AreKeptAt, StaysFound}
+use Rattle.store.specs.Stores.{AreKeptAt, StaysFound, StaysShut}
 use Rattle.store.specs.declared.place.Place.{Place}
 use Rattle.store.specs.declared.place.Place.TheVariants as at
 use Rattle.store.specs.declared.store.Store.{Store}
@@ -67,17 +65,22 @@ module _ {D : Type 0} {g : disk.Ghosts D} where
     unready = λ ready. first.unready (second.unready ready);
   }
 
+  -- a store that stays shut in two runs stays so in both
+  pub shut_then : (a b c : Store D g) → StaysShut a b → StaysShut b c → StaysShut a c
+  shut_then a b c first second shut =
+      let same = first shut in second (ap (λ (s : Store D g). s.ready) same ∙ shut) ∙ same
+
   -- two open places have one schema, one directory, and the same tables of strangers
   abbrev AreAlike : Place D g → Place D g → Type 0
   AreAlike old new = OfDatabaseAt (λ before. OfDatabaseAt (KeepsTables before) new) old
 
   alike_itself : (place : Place D g) → IsLiveAt place → AreAlike place place
-  alike_itself (at.Open conn) live = record { schema = refl; directory = refl; strangers = refl }
+  alike_itself (at.Open tables) live = record { schema = refl; directory = refl; strangers = refl }
   alike_itself (at.Shut files) live = absurd live
 
   alike_then : (a b c : Place D g) → AreAlike a b → AreAlike b c → AreAlike a c
   alike_then (at.Open a) (at.Open b) (at.Open c) first second =
-      kept_then (file_state a).now (file_state b).now (file_state c).now first second
+      kept_then (open_state a).now (open_state b).now (open_state c).now first second
   alike_then (at.Open a) (at.Open b) (at.Shut files) first second = absurd second
   alike_then (at.Open a) (at.Shut files) c first second = absurd first
   alike_then (at.Shut files) b c first second = absurd first
@@ -93,9 +96,9 @@ module _ {D : Type 0} {g : disk.Ghosts D} where
   kept_both : (a : Place D g) (was mid db : Trees) → AreKeptAt a was mid → AreKeptAt a mid db
       → AreKeptAt a was db
   kept_both (at.Open a) was mid db first second =
-      kept_then (record { schema = (file_state a).now.schema; trees = was })
-      (record { schema = (file_state a).now.schema; trees = mid })
-      (record { schema = (file_state a).now.schema; trees = db }) first second
+      kept_then (record { schema = (open_state a).now.schema; trees = was })
+      (record { schema = (open_state a).now.schema; trees = mid })
+      (record { schema = (open_state a).now.schema; trees = db }) first second
   kept_both (at.Shut files) was mid db first second = absurd first
 
   stays_then : (a b : Store D g) (was mid db : Trees) → Continues a b → StaysFound a was mid
@@ -118,7 +121,7 @@ module _ {D : Type 0} {g : disk.Ghosts D} where
 
   directory_at : (place : Place D g) (was db : Trees) → AreKeptAt place was db
       → KeepsDirectory was db
-  directory_at (at.Open conn) was db kept = kept.directory
+  directory_at (at.Open tables) was db kept = kept.directory
   directory_at (at.Shut files) was db kept = absurd kept
 
   -- what stays so has the same directory
@@ -131,6 +134,7 @@ module _ {D : Type 0} {g : disk.Ghosts D} where
   pub continues_itself : (a : Store D g) → Continues a a
   continues_itself a = record {
     follows = follows_itself a;
+    shut = λ shut. refl;
     tables = λ live. alike_itself a.place live;
     found = λ honest db may. ∣ (db, may, inl refl) ∣₁;
   }
@@ -139,6 +143,7 @@ module _ {D : Type 0} {g : disk.Ghosts D} where
   pub continues_then : (a b c : Store D g) → Continues a b → Continues b c → Continues a c
   continues_then a b c first second = record {
     follows = follows_then a b c first.follows second.follows;
+    shut = shut_then a b c first.shut second.shut;
     tables = λ live. alike_then a.place b.place c.place
         (first.tables (second.follows.lived live)) (second.tables live);
     found = λ honest db may. ∥∥₁_elim (second.found honest db may) squash₁ (λ mid.
@@ -153,8 +158,8 @@ module _ {D : Type 0} {g : disk.Ghosts D} where
 
   valid_at : (ready : _) (sets : DueSets) (place : Place D g) → IsLiveAt place
       → IsUsableAt ready sets place → AreValid (tenants_at place)
-  valid_at ready sets (at.Open conn) live usable =
-      valid_in (file_state conn).now (usable.0 live).ledgers
+  valid_at ready sets (at.Open tables) live usable =
+      valid_in (open_state tables).now (usable.0 live).ledgers
   valid_at ready sets (at.Shut files) live usable = absurd live
 
   -- the machines of a live store are valid
@@ -163,15 +168,15 @@ module _ {D : Type 0} {g : disk.Ghosts D} where
 
   -- what is read of a database, as it is shown of the place where that is open
   module _ {X : Type 0} (read : Trees → List ℕ → X) (shown : Place D g → List ℕ → X)
-      (same : (conn : Held (FileStore D g)) → shown (at.Open conn) ≡ read (file_state conn).now.trees) where
+      (same : (tables : OpenTables D g) → shown (at.Open tables) ≡ read (open_state tables).now.trees) where
     settled_at : (ready : Bool) (sets : DueSets) (place : Place D g) (db : Trees) → IsSettledAt place
         → IsUsableAt ready sets place → IsLiveAt place → may_find_at place db
         → (key : List ℕ) → read db key ≡ shown place key
-    settled_at ready sets (at.Open conn) db settled usable live may key =
+    settled_at ready sets (at.Open tables) db settled usable live may key =
         ap (λ (trees : Trees). read trees key)
         (settled.only live.1 db may
         ∙ sym (ap (λ (now : Database). now.trees) (usable.0 live).quiet.settled))
-        ∙ sym (ap (λ all. all key) (same conn))
+        ∙ sym (ap (λ all. all key) (same tables))
     settled_at ready sets (at.Shut files) db settled usable live may key = absurd live
 
     -- while a store is open, an opening finds what is there
@@ -185,12 +190,12 @@ module _ {D : Type 0} {g : disk.Ghosts D} where
     -- and what one has found was to be found
     pub opened_shown : (old : Store D g) (place : Place D g) → IsHonest old
         → FindsAt (may_find old) place → ∥ FindsBy read old (shown place) ∥₁
-    opened_shown old (at.Open conn) honest finds =
+    opened_shown old (at.Open tables) honest finds =
         ∥∥₁_map finds.1 (λ may. record {
           honest = honest;
-          db = (file_state conn).now.trees;
+          db = (open_state tables).now.trees;
           may = may;
-          agrees = λ key. ap (λ all. all key) (same conn);
+          agrees = λ key. ap (λ all. all key) (same tables);
         })
     opened_shown old (at.Shut files) honest finds = absurd finds
 
@@ -198,10 +203,10 @@ module _ {D : Type 0} {g : disk.Ghosts D} where
   pub finds_itself :
       (store : Store D g) → IsSettledStore store → IsUsable store → IsLive store →
       (found : Tenants) → FindsTenants store found → KeepsAll (tenants_of store) found
-  finds_itself = finds_shown tenants_in tenants_at (λ conn. refl)
+  finds_itself = finds_shown tenants_in tenants_at (λ tables. refl)
 
   pub honest_at : (place : Place D g) → IsLiveAt place → IsHonestAt place
-  honest_at (at.Open conn) live = live.0
+  honest_at (at.Open tables) live = live.0
   honest_at (at.Shut files) live = absurd live
 
   -- a store that is opened again is what might have been found before
@@ -210,11 +215,11 @@ module _ {D : Type 0} {g : disk.Ghosts D} where
       (IsHonest new → IsHonest old) → IsLive new → ∥ FindsTenants old (tenants_of new) ∥₁
   opened_is_found old new finds honest live =
       let now = honest_at new.place live in
-      opened_shown tenants_in tenants_at (λ conn. refl) old new.place (honest now) (finds now)
+      opened_shown tenants_in tenants_at (λ tables. refl) old new.place (honest now) (finds now)
 
   pub found_live_at :
       (X : Trees → Type 0) (place : Place D g) → IsHonestAt place → FindsAt X place → IsLiveAt place
-  found_live_at X (at.Open conn) honest finds = (honest, finds.0)
+  found_live_at X (at.Open tables) honest finds = (honest, finds.0)
   found_live_at X (at.Shut files) honest finds = absurd finds
 
   -- and where an opening may find something, it is live

@@ -7,10 +7,8 @@ use Rattle.sqlite_wal.specs.Files.{outcomes}
 use Rattle.sqlite_wal.specs.Reads.{AreClean}
 use Rattle.sqlite_wal.specs.Recovery.{Image}
 use Rattle.sqlite.specs.Effect.{Database}
-use Rattle.sqlite.specs.Files.{HoldsDatabase, AreFoundIn, file_state}
-use Rattle.sqlite.specs.Held.{Held}
+use Rattle.sqlite.specs.Files.{HoldsDatabase, AreFoundIn}
 use Rattle.sqlite.specs.State.{HasCleanDisk}
-use Rattle.sqlite_store.specs.declared.store.FileStore.{FileStore}
 use Rattle.records.specs.declared.unavailable.Unavailable.{Unavailable}
 use Rattle.records.specs.declared.unavailable.Unavailable.TheVariants.{Disk as DiskFailed}
 use Rattle.chain.specs.Ledgers.{Tenants, KeepsAll}
@@ -19,6 +17,7 @@ use Rattle.stored_ledgers.specs.Directory.{tenants_in}
 use Rattle.stored_ledgers.specs.DueSets.{DueSets}
 use Rattle.stored_ledgers.specs.Outcomes.{KeepsTables}
 use Rattle.openings.specs.Found.{IsOfLedger, LeavesCommitted, LeavesUnopened, Yields}
+use Rattle.openings.specs.OpenTables.{OpenTables, open_state}
 use Rattle.openings.specs.Opened.{WasOpenedOn}
 use Rattle.openings.specs.Told.{IsSoundLedger, IsFaultTold}
 use Rattle.openings.specs.declared.opening.OpenFault.{OpenFault}
@@ -38,30 +37,30 @@ left_in g files db =
 module _ {D : Type 0} {g : disk.Ghosts D} where
   -- the database is open, and the disk was honest so far
   abbrev pub IsLiveAt : Place D g → Type 0
-  IsLiveAt (at.Open conn) = Live (file_state conn)
+  IsLiveAt (at.Open tables) = Live (open_state tables)
   IsLiveAt (at.Shut files) = ⊥
 
   -- the disk was honest so far
   abbrev pub IsHonestAt : Place D g → Type 0
-  IsHonestAt (at.Open conn) = HasCleanDisk (file_state conn)
+  IsHonestAt (at.Open tables) = HasCleanDisk (open_state tables)
   IsHonestAt (at.Shut files) = AreClean g files.log files.db
 
   -- each tenant's machine
   abbrev pub tenants_at : Place D g → Tenants
-  tenants_at (at.Open conn) = tenants_in (file_state conn).now.trees
+  tenants_at (at.Open tables) = tenants_in (open_state tables).now.trees
   tenants_at (at.Shut files) = λ digest. None
 
   -- what an opening may find there after a crash
   abbrev pub may_find_at : Place D g → Trees → Type 0
-  may_find_at (at.Open conn) = (file_state conn).may_leave
+  may_find_at (at.Open tables) = (open_state tables).may_leave
   may_find_at (at.Shut files) = left_in g files
 
   -- the database, if it is open, holds ledgers and the sets cover them; where calls are answered it
   -- is open
   abbrev pub IsUsableAt : Bool → DueSets → Place D g → Type 0
-  IsUsableAt ready sets (at.Open conn) =
-      (Live (file_state conn) → IsResting sets (file_state conn))
-      × (IsTrue ready → HasCleanDisk (file_state conn) → IsTrue (file_state conn).is_open)
+  IsUsableAt ready sets (at.Open tables) =
+      (Live (open_state tables) → IsResting sets (open_state tables))
+      × (IsTrue ready → HasCleanDisk (open_state tables) → IsTrue (open_state tables).is_open)
   IsUsableAt ready sets (at.Shut files) = ready ≡ false
 
   -- the store is open, on a disk that was honest so far
@@ -96,7 +95,7 @@ module _ {D : Type 0} {g : disk.Ghosts D} where
 
   -- the store is open, and its database is one of these
   abbrev pub FindsAt : (Trees → Type 0) → Place D g → Type 0
-  FindsAt X (at.Open conn) = IsTrue (file_state conn).is_open × ∥ X (file_state conn).now.trees ∥₁
+  FindsAt X (at.Open tables) = IsTrue (open_state tables).is_open × ∥ X (open_state tables).now.trees ∥₁
   FindsAt X (at.Shut files) = ⊥
 
   abbrev pub StoreFinds : Store D g → (Trees → Type 0) → Type 0
@@ -114,7 +113,7 @@ module _ {D : Type 0} {g : disk.Ghosts D} where
 
   -- something holds of the open database
   abbrev pub OfDatabaseAt : (Database → Type 0) → Place D g → Type 0
-  OfDatabaseAt P (at.Open conn) = P (file_state conn).now
+  OfDatabaseAt P (at.Open tables) = P (open_state tables).now
   OfDatabaseAt P (at.Shut files) = ⊥
 
   abbrev pub OfDatabase : (Database → Type 0) → Store D g → Type 0
@@ -139,17 +138,22 @@ module _ {D : Type 0} {g : disk.Ghosts D} where
   abbrev pub StaysFound : Store D g → Trees → Trees → Type 0
   StaysFound old was db = (db ≡ was) ⊎ (IsLive old × AreKeptAt old.place was db)
 
+  -- a store that answers no calls stays as it is
+  abbrev pub StaysShut : Store D g → Store D g → Type 0
+  StaysShut old new = old.ready ≡ false → new ≡ old
+
   -- what every run of batches and reads keeps: that, the schema, the number, name and digest of
   -- each tenant, and the tables of strangers, also in whatever an opening may find
   pub record Continues (old new : Store D g) : Type 0 where
     pub follows : StoreFollows old new
+    pub shut : StaysShut old new
     pub tables : IsLive new → OfDatabases KeepsTables old new
     pub found : IsHonest new → (db : Trees) → may_find new db
         → MayHold old (λ was. StaysFound old was db)
 
   -- a crash leaves what is there, and nothing else
   abbrev pub IsSettledAt : Place D g → Type 0
-  IsSettledAt (at.Open conn) = LeavesCommitted (file_state conn)
+  IsSettledAt (at.Open tables) = LeavesCommitted (open_state tables)
   IsSettledAt (at.Shut files) = Unit {0}
 
   abbrev pub IsSettledStore : Store D g → Type 0
@@ -157,7 +161,7 @@ module _ {D : Type 0} {g : disk.Ghosts D} where
 
   -- the files that a store gives back: a crash leaves in them what may be found
   abbrev pub GivesBackAt : Place D g → Files D → Type 0
-  GivesBackAt (at.Open conn) files = Yields g files (file_state conn).may_leave
+  GivesBackAt (at.Open tables) files = Yields g files (open_state tables).may_leave
   GivesBackAt (at.Shut kept) files = files ≡ kept
 
   abbrev pub GivesBack : Store D g → Files D → Type 0
@@ -168,8 +172,8 @@ module _ {D : Type 0} {g : disk.Ghosts D} where
   AnswersCalls store = IsTrue store.ready
 
   -- the store is over this open database
-  abbrev pub IsStoreOver : Held (FileStore D g) → Store D g → Type 0
-  IsStoreOver conn store = store.place ≡ at.Open conn
+  abbrev pub IsStoreOver : OpenTables D g → Store D g → Type 0
+  IsStoreOver tables store = store.place ≡ at.Open tables
 
   -- a store that answers no calls tells this fault, and is as before
   abbrev pub RefusesUnready : {T E : Type 0} → E → Store D g → Store D g → Result T E → Type 0
@@ -196,8 +200,8 @@ module _ {D : Type 0} {g : disk.Ghosts D} where
 
   -- a store was opened on what the files held, which was a sound ledger
   abbrev pub IsOpenedAt : Image → Place D g → Type 0
-  IsOpenedAt image (at.Open conn) =
-      WasOpenedOn image (file_state conn) × IsSoundLedger (file_state conn).now
+  IsOpenedAt image (at.Open tables) =
+      WasOpenedOn image (open_state tables) × IsSoundLedger (open_state tables).now
   IsOpenedAt image (at.Shut files) = ⊥
 
   abbrev pub IsOpenedOn : Image → Store D g → Type 0

@@ -38,10 +38,10 @@ impl<D: Disk + Drop> Store<D> {
         if !self.ready {
             return Err(Unavailable::Disk);
         }
-        let Place::Open(conn) = &mut self.place else {
+        let Place::Open(tables) = &mut self.place else {
             return Err(Unavailable::Disk);
         };
-        let found = find_overdue(conn, &self.due, search, moment);
+        let found = find_overdue(tables, &self.due, search, moment);
         self.ready = !is_disk_fault(&found);
         found
     }

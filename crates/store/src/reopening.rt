@@ -44,7 +44,7 @@ fn reopened<D: Disk + Drop, A: Audit>(store: Store<D>, audit: &A) -> (Store<D>, 
         );
     }
     match open_ledger(alloc, files, options, audit) {
-        Ok((conn, due)) => (Store::over(alloc, conn, due, options), Ok(())),
+        Ok((tables, due)) => (Store::over(alloc, tables, due, options), Ok(())),
         Err((refused, left)) => (unopened(alloc, options, left), Err(refused)),
     }
 }

@@ -4,13 +4,14 @@ ghost use Rattle.std.specs.Prelude.{◌≡◌, Err, is_some, IfOk, IfErr, OnErr}
 ghost use Rattle.records.specs.declared.unavailable.Unavailable.TheVariants.{Disk as DiskFailed};
 ghost use Rattle.chain.specs.Ledgers.{IsRun, KeepsAll};
 ghost use Rattle.chain.specs.declared.ledgers.BatchFault.TheVariants.{Unavailable as AreUnavailable};
-ghost use Rattle.sqlite.specs.Files.{file_state, image_of};
+ghost use Rattle.sqlite.specs.Files.{image_of};
 ghost use Rattle.stored_ledgers.specs.Outcomes.{IsAfterBatch, KeepsTables};
 ghost use Rattle.sqlite_wal.specs.Reads.{AreClean};
 ghost use Rattle.ledger_sql.specs.Creating.{IsEmptyLedger};
 ghost use Rattle.stored_ledgers.specs.Directory.{digest_in};
 ghost use Rattle.openings.specs.Calls.{AreUsable};
 ghost use Rattle.openings.specs.Found.{FindsNoSchema};
+ghost use Rattle.openings.specs.OpenTables.{open_state};
 ghost use Rattle.stored_ledgers.specs.Listing.{AreListed};
 ghost use Rattle.stored_ledgers.specs.Joining.{HasJoined, Joined};
 ghost use Rattle.stored_ledgers.specs.Keying.{HasKeyed, Keyed};
@@ -30,15 +31,15 @@ ghost use Rattle.openings.specs.Whole.{AreAllRows, AreRowsOfDigest};
 use crate::place::Place;
 use chain::{BatchFault, RoundWork, Work};
 use openings::auditing::Audit;
-use openings::closing::{is_settled, shut};
 use openings::creating::create_ledger;
 use openings::ledgers::open_ledger;
+use openings::open_tables::{OpenTables, give_back, is_settled};
 use openings::opening::OpenFault;
 use openings::versions::CURRENT_VERSION;
 use openings::whole_rows::{all_rows, rows_of};
 use records::Unavailable;
 use rows::{AllRows, TenantRows};
-use sqlite::{Connection, FileStore, Files, Options};
+use sqlite::{Files, Options};
 use sqlite_disk::Disk;
 use std::alloc::Global;
 use std::collections::BTreeMap;
@@ -95,8 +96,8 @@ impl<D: Disk + Drop> Store<D> {
             → AreClean D.Disk files.log files.db) }
         ensures refused { IfErr result (RefusesToMake D.Disk files) }
     {
-        let conn = create_ledger(alloc, files, options)?;
-        Ok(Store::over(alloc, conn, BTreeMap::new(alloc), options))
+        let tables = create_ledger(alloc, files, options)?;
+        Ok(Store::over(alloc, tables, BTreeMap::new(alloc), options))
     }
 
     /// Opens the ledger in two files, once all of it was looked at. Refused, they are given back.
@@ -116,26 +117,21 @@ impl<D: Disk + Drop> Store<D> {
         ensures refused { IfErr result (RefusesToOpen D.Disk files) }
     {
         match open_ledger(alloc, files, options, audit) {
-            Ok((conn, due)) => Ok(Store::over(alloc, conn, due, options)),
+            Ok((tables, due)) => Ok(Store::over(alloc, tables, due, options)),
             Err((refused, left)) => Err((refused.fault, left)),
         }
     }
 
     /// A store over a database that is open, whose ledgers were looked at and are the current
     /// version's. The sets have what is due of each tenant.
-    pub fn over(
-        alloc: Global,
-        conn: Connection<FileStore<D>>,
-        due: DueSets,
-        options: Options,
-    ) -> Store<D>
-        requires { IsServing due (file_state conn) }
+    pub fn over(alloc: Global, tables: OpenTables<D>, due: DueSets, options: Options) -> Store<D>
+        requires { IsServing due (open_state tables) }
         ensures usable { IsUsable result }
         ensures ready { AnswersCalls result }
-        ensures over { IsStoreOver conn result }
+        ensures over { IsStoreOver tables result }
     {
         Store {
-            place: Place::Open(conn),
+            place: Place::Open(tables),
             ready: true,
             due,
             options,
@@ -161,8 +157,8 @@ impl<D: Disk + Drop> Store<D> {
     pub fn is_settled(&self)
         ensures { IsSettledStore self.now }
     {
-        if let Place::Open(conn) = &self.place {
-            is_settled(conn);
+        if let Place::Open(tables) = &self.place {
+            is_settled(tables);
         }
     }
 
@@ -179,7 +175,7 @@ impl<D: Disk + Drop> Store<D> {
             alloc: _,
         } = self;
         match place {
-            Place::Open(conn) => shut(conn),
+            Place::Open(tables) => give_back(tables),
             Place::Shut(files) => files,
         }
     }
@@ -194,10 +190,10 @@ impl<D: Disk + Drop> Store<D> {
         if !self.ready {
             return Err(Unavailable::Disk);
         }
-        let Place::Open(conn) = &mut self.place else {
+        let Place::Open(tables) = &mut self.place else {
             return Err(Unavailable::Disk);
         };
-        let known = knows(conn, digest);
+        let known = knows(tables, digest);
         self.ready = !is_disk_fault(&known);
         known
     }
@@ -212,10 +208,10 @@ impl<D: Disk + Drop> Store<D> {
         if !self.ready {
             return Err(Unavailable::Disk);
         }
-        let Place::Open(conn) = &mut self.place else {
+        let Place::Open(tables) = &mut self.place else {
             return Err(Unavailable::Disk);
         };
-        let rows = all_rows(self.alloc, conn, CURRENT_VERSION);
+        let rows = all_rows(self.alloc, tables, CURRENT_VERSION);
         self.ready = !is_disk_fault(&rows);
         rows
     }
@@ -230,10 +226,10 @@ impl<D: Disk + Drop> Store<D> {
         if !self.ready {
             return Err(Unavailable::Disk);
         }
-        let Place::Open(conn) = &mut self.place else {
+        let Place::Open(tables) = &mut self.place else {
             return Err(Unavailable::Disk);
         };
-        let rows = rows_of(self.alloc, conn, CURRENT_VERSION, digest);
+        let rows = rows_of(self.alloc, tables, CURRENT_VERSION, digest);
         self.ready = !is_disk_fault(&rows);
         rows
     }
@@ -248,10 +244,10 @@ impl<D: Disk + Drop> Store<D> {
         if !self.ready {
             return Err(Unavailable::Disk);
         }
-        let Place::Open(conn) = &mut self.place else {
+        let Place::Open(tables) = &mut self.place else {
             return Err(Unavailable::Disk);
         };
-        let digest = digest_of(conn, name);
+        let digest = digest_of(tables, name);
         self.ready = !is_disk_fault(&digest);
         digest
     }
@@ -266,10 +262,10 @@ impl<D: Disk + Drop> Store<D> {
         if !self.ready {
             return Err(Unavailable::Disk);
         }
-        let Place::Open(conn) = &mut self.place else {
+        let Place::Open(tables) = &mut self.place else {
             return Err(Unavailable::Disk);
         };
-        let listed = tenants(self.alloc, conn);
+        let listed = tenants(self.alloc, tables);
         self.ready = !is_disk_fault(&listed);
         listed
     }
@@ -290,10 +286,10 @@ impl<D: Disk + Drop> Store<D> {
         if !self.ready {
             return Err(AddTenant::Unavailable(Unavailable::Disk));
         }
-        let Place::Open(conn) = &mut self.place else {
+        let Place::Open(tables) = &mut self.place else {
             return Err(AddTenant::Unavailable(Unavailable::Disk));
         };
-        let joined = join(self.alloc, conn, &mut self.due, name, digest);
+        let joined = join(self.alloc, tables, &mut self.due, name, digest);
         self.ready = !is_disk_fault(&joined);
         self.is_settled();
         joining_answer(joined)
@@ -318,10 +314,10 @@ impl<D: Disk + Drop> Store<D> {
         if !self.ready {
             return Err(ChangeKey::Unavailable(Unavailable::Disk));
         }
-        let Place::Open(conn) = &mut self.place else {
+        let Place::Open(tables) = &mut self.place else {
             return Err(ChangeKey::Unavailable(Unavailable::Disk));
         };
-        let keyed = change_key(conn, &mut self.due, name, digest);
+        let keyed = change_key(tables, &mut self.due, name, digest);
         self.ready = !is_disk_fault(&keyed);
         self.is_settled();
         keying_answer(keyed)
@@ -344,10 +340,10 @@ impl<D: Disk + Drop> Store<D> {
         if !self.ready {
             return Err(BatchFault::Unavailable(Unavailable::Disk));
         }
-        let Place::Open(conn) = &mut self.place else {
+        let Place::Open(tables) = &mut self.place else {
             return Err(BatchFault::Unavailable(Unavailable::Disk));
         };
-        let done = in_batch(conn, &mut self.due, digest, work);
+        let done = in_batch(tables, &mut self.due, digest, work);
         self.ready = !is_disk_fault(&done);
         batch_answer(done)
     }
@@ -368,10 +364,10 @@ impl<D: Disk + Drop> Store<D> {
         if !self.ready {
             return Err(Unavailable::Disk);
         }
-        let Place::Open(conn) = &mut self.place else {
+        let Place::Open(tables) = &mut self.place else {
             return Err(Unavailable::Disk);
         };
-        let ran = in_round(self.alloc, conn, &mut self.due, work);
+        let ran = in_round(self.alloc, tables, &mut self.due, work);
         self.ready = !is_disk_fault(&ran);
         ran
     }

@@ -1,7 +1,6 @@
 use Rattle.std.proofs.Common.{refl, sym, subst, rules, arith}
 use Rattle.std.specs.List.{AllZip}
 use Rattle.sqlite.specs.Effect.{Database}
-use Rattle.sqlite.specs.Held.{state}
 use Rattle.sqlite.specs.State.{HasCleanDisk}
 use Rattle.openings.specs.Tables.{HasTables}
 use Rattle.openings.specs.Whole.{IsReadFor}
@@ -11,7 +10,7 @@ use Rattle.openings.proofs.whole_rows.read_all.Goals as goal
 pub returns-clause-reads : goal.returns-clause-reads
 returns-clause-reads g c = record {
   whole = λ clean has.
-      let first : HasCleanDisk (state g.S.Store c.directory.new.conn) =
+      let first : HasCleanDisk (g.T.LedgerTables.state c.directory.new.self) =
       omega (arith, c.in_ok-tenants.ensures.follows.survives.clean, clean) in
       let kept = c.in_ok-directory.ensures.reads.same first in
       let there = subst (λ (db : Database). HasTables c.args.version db.schema) (sym kept.0.now_is) has in

@@ -2,7 +2,6 @@ use Rattle.std.proofs.Common.{[], sym, subst, refl, rules, arith}
 use Rattle.std.specs.List.{AllZip}
 use Rattle.rows.specs.TypedRows.{lists_of}
 use Rattle.sqlite.specs.Effect.{Database}
-use Rattle.sqlite.specs.Held.{state}
 use Rattle.sqlite.specs.State.{HasCleanDisk}
 use Rattle.stored_tables.specs.BatchLaws.{follows_itself, follows_then}
 use Rattle.stored_ledgers.specs.RestingLaws.{unchanged}
@@ -15,16 +14,16 @@ use Rattle.openings.proofs.whole_rows.read_tenants.Goals as goal
 pub loop-row-init : goal.loop-row-init
 loop-row-init g c = record {
   read = λ clean has.
-      subst (AllZip (IsReadFor c.args.version (state g.S.Store c.args.conn.now).now.trees) [])
+      subst (AllZip (IsReadFor c.args.version (g.T.LedgerTables.state c.args.tables.now).now.trees) [])
       (sym c.new-tenants.ensures.items) tt;
-  kept = λ clean is_open. unchanged (state g.S.Store c.args.conn.now) is_open;
-  follows = follows_itself (state g.S.Store c.args.conn.now);
+  kept = λ clean is_open. unchanged (g.T.LedgerTables.state c.args.tables.now) is_open;
+  follows = follows_itself (g.T.LedgerTables.state c.args.tables.now);
 }
 
 pub loop-row-preserved : goal.loop-row-preserved
 loop-row-preserved g c =
-    let s0 = state g.S.Store c.args.conn.now in
-    let s1 = state g.S.Store c.loop-row.conn in
+    let s0 = g.T.LedgerTables.state c.args.tables.now in
+    let s1 = g.T.LedgerTables.state c.loop-row.tables in
     let follows = c.in_ok-rows.ensures.looks.follows in record {
       read = λ clean has.
           let mid : HasCleanDisk s1 = omega (arith, follows.survives.clean, clean) in

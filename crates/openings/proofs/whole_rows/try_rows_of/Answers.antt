@@ -1,7 +1,6 @@
 use Rattle.std.proofs.Common.{◌∙◌, sym, subst, rules, arith}
 use Rattle.rows.specs.TypedRows.{lists_of}
 use Rattle.sqlite.specs.Effect.{Database}
-use Rattle.sqlite.specs.Held.{state}
 use Rattle.sqlite.specs.State.{HasCleanDisk}
 use Rattle.openings.specs.Tables.{HasTables, AreTenantRows}
 use Rattle.openings.proofs.Passed.{passed}
@@ -12,7 +11,7 @@ use Rattle.openings.proofs.whole_rows.try_rows_of.Goals as goal
 pub returns-in_default : goal.returns-in_default
 returns-in_default g c = record {
   value = λ clean.
-      let before : HasCleanDisk (state g.S.Store c.args.conn.now) =
+      let before : HasCleanDisk (g.T.LedgerTables.state c.args.tables.now) =
       omega (arith, c.in_ok-number.ensures.reads.follows.survives.clean, clean) in
       let ledgers = (c.requires before).2 in
       found_number c.args.digest.now _ c.in_ok-number.field-0
@@ -24,9 +23,9 @@ returns-in_default g c = record {
 pub returns : goal.returns
 returns g c = record {
   value = λ clean.
-      let first : HasCleanDisk (state g.S.Store c.find_tenant.new.conn) =
+      let first : HasCleanDisk (g.T.LedgerTables.state c.find_tenant.new.self) =
       omega (arith, c.in_ok-read_tenant.ensures.looks.follows.survives.clean, clean) in
-      let before : HasCleanDisk (state g.S.Store c.args.conn.now) =
+      let before : HasCleanDisk (g.T.LedgerTables.state c.args.tables.now) =
       omega (arith, c.in_ok-number.ensures.reads.follows.survives.clean, first) in
       let ledgers = (c.requires before).2 in
       let kept = c.in_ok-number.ensures.reads.same first in

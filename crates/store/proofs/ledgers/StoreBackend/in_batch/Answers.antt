@@ -12,6 +12,7 @@ returns-clause-batch g c = record {
       (λ shut. (c.in_batch.ensures.answers.refuses shut).1) c.in_batch.ensures.answers.open_yet;
   follows = record {
     follows = c.in_batch.ensures.answers.follows;
+    shut = λ shut. (c.in_batch.ensures.answers.refuses shut).1;
     tables = c.in_batch.ensures.tables;
     found = found_tables c.args.self.now c.in_batch.new.self c.is_settled.ensures c.requires
         c.in_batch.ensures.answers.follows (λ shut. (c.in_batch.ensures.answers.refuses shut).1)

@@ -12,6 +12,7 @@ returns-clause-knows g c = record {
       finds_known c.args.self.now c.knows.new.self c.knows.result LeadsNowhere c.knows.ensures.reads;
   follows = record {
     follows = c.knows.ensures.reads.answers.follows;
+    shut = λ shut. (c.knows.ensures.reads.answers.refuses shut).1;
     tables = λ live. still_keeps c.args.self.now.place c.knows.new.self.place
         (c.knows.ensures.reads.unchanged live);
     found = found_unchanged c.args.self.now c.knows.new.self c.knows.result c.knows.ensures.reads;

@@ -13,6 +13,7 @@ returns-clause-round g c = record {
       c.requires c.in_round.ensures.answers c.in_round.ensures.finds;
   follows = record {
     follows = c.in_round.ensures.answers.follows;
+    shut = λ shut. (c.in_round.ensures.answers.refuses shut).1;
     tables = c.in_round.ensures.tables;
     found = found_tables c.args.self.now c.in_round.new.self c.is_settled.ensures c.requires
         c.in_round.ensures.answers.follows (λ shut. (c.in_round.ensures.answers.refuses shut).1)

@@ -9,7 +9,7 @@ use Rattle.store.proofs.store.Store.in_batch.Goals as goal
 
 pub returns-clause-finds : goal.returns-clause-finds
 returns-clause-finds g c =
-    finds_open g.D.Disk (IsAfterBatch (g.W.Work.gives c.args.work) c.args.digest.now) c.args.self.now.place c.in-Open.conn
+    finds_open g.D.Disk (IsAfterBatch (g.W.Work.gives c.args.work) c.args.digest.now) c.args.self.now.place c.in-Open.tables
     c.in_batch-done.new.tables c.in-Open.is
     c.in_batch-done.ensures.survives
 
@@ -26,6 +26,6 @@ returns-clause-answers g c =
       λ failed. told_disk _ (sym c.batch_answer.ensures ∙ failed),
       λ failed. c.batch_answer.ensures ∙ ap batch_answer failed,
     ) ready
-    (serves_open g.D.Disk c.in_batch-done.result c.is_disk_fault.result c.args.self.now _ c.in-Open.conn
+    (serves_open g.D.Disk c.in_batch-done.result c.is_disk_fault.result c.args.self.now _ c.in-Open.tables
     c.in_batch-done.new.tables c.in-Open.is refl ready refl c.is_disk_fault.ensures c.requires
     c.in_batch-done.ensures.serves c.in_batch-done.ensures.survives)

@@ -6,4 +6,4 @@ pub knows-known-requires : goal.knows-known-requires
 knows-known-requires g c = reads_here g.D.Disk c.args.self.now _ c.in-Open.is (search rules) c.requires
 
 pub returns-clause-reads : goal.returns-clause-reads
-returns-clause-reads g c = reads_open g.D.Disk c.knows-known.result c.is_disk_fault.result c.args.self.now _ c.in-Open.conn c.knows-known.new.tables c.in-Open.is refl (search rules) refl c.is_disk_fault.ensures c.requires refl c.knows-known.ensures.reads
+returns-clause-reads g c = reads_open g.D.Disk c.knows-known.result c.is_disk_fault.result c.args.self.now _ c.in-Open.tables c.knows-known.new.tables c.in-Open.is refl (search rules) refl c.is_disk_fault.ensures c.requires refl c.knows-known.ensures.reads

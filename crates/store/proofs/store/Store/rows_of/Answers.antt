@@ -6,4 +6,4 @@ pub rows_of-rows-requires : goal.rows_of-rows-requires
 rows_of-rows-requires g c = reads_here g.D.Disk c.args.self.now _ c.in-Open.is (search rules) c.requires
 
 pub returns-clause-reads : goal.returns-clause-reads
-returns-clause-reads g c = reads_open g.D.Disk c.rows_of-rows.result c.is_disk_fault.result c.args.self.now _ c.in-Open.conn c.rows_of-rows.new.conn c.in-Open.is refl (search rules) refl c.is_disk_fault.ensures c.requires refl c.rows_of-rows.ensures.reads
+returns-clause-reads g c = reads_open g.D.Disk c.rows_of-rows.result c.is_disk_fault.result c.args.self.now _ c.in-Open.tables c.rows_of-rows.new.tables c.in-Open.is refl (search rules) refl c.is_disk_fault.ensures c.requires refl c.rows_of-rows.ensures.reads

@@ -6,4 +6,4 @@ pub tenants-listed-requires : goal.tenants-listed-requires
 tenants-listed-requires g c = reads_here g.D.Disk c.args.self.now _ c.in-Open.is (search rules) c.requires
 
 pub returns-clause-reads : goal.returns-clause-reads
-returns-clause-reads g c = reads_open g.D.Disk c.tenants-listed.result c.is_disk_fault.result c.args.self.now _ c.in-Open.conn c.tenants-listed.new.tables c.in-Open.is refl (search rules) refl c.is_disk_fault.ensures c.requires refl c.tenants-listed.ensures.reads
+returns-clause-reads g c = reads_open g.D.Disk c.tenants-listed.result c.is_disk_fault.result c.args.self.now _ c.in-Open.tables c.tenants-listed.new.tables c.in-Open.is refl (search rules) refl c.is_disk_fault.ensures c.requires refl c.tenants-listed.ensures.reads
