@@ -138,27 +138,27 @@ module _ {S C P : Type 0} (t : LedgersMeaning S) (gives : C → ℕ → C → Ty
       (ledgers ledgers_now : S) (moments moments_now : C) (peers : P)
       (seats seats_now : ℕ → Option Talk) (next : ℕ) (messages : List Message) →
       AreSame seats seats_now → AreGiven gives moments (moments_of messages) moments_now →
-      (t.is_live ledgers_now → t.is_live ledgers) →
+      t.follows ledgers ledgers_now → (t.is_live ledgers_now → t.is_live ledgers) →
       (t.is_live ledgers_now → KeepsAll (t.tenants ledgers) (t.tenants ledgers_now)) →
       IsFoundAgain t ledgers_now →
       ServesEach (rules t gives renews waits does) (held (Whole ledgers) moments peers seats next)
       (held (Whole ledgers_now) moments_now peers seats_now next) 0
   taken_back ledgers ledgers_now moments moments_now peers seats seats_now next messages same given
-      lived kept found =
+      follows lived kept found =
       let r = rules t gives renews waits does in
       then_each r (held (Whole ledgers) moments peers seats next)
       (held (Whole ledgers) moments peers seats_now next)
       (held (Whole ledgers_now) moments_now peers seats_now next) 0 0 0 refl
       (unchanged same (λ one found. found))
       (rests_all r (Whole ledgers) (Whole ledgers_now) moments moments_now (moments_of messages) peers
-      seats_now next (record { lived = lived; same = kept; found = found }) given)
+      seats_now next (record { follows = follows; lived = lived; same = kept; found = found }) given)
 
   -- a round was kept, and its replies are put
   pub kept_and_put :
       (ledgers ledgers_now : S) (moments moments_now : C) (peers peers_now : P)
       (seats seats_now seats_then : ℕ → Option Talk) (next : ℕ) (messages : List Message)
       (replies : List Reply) (count : ℕ) → AreSame seats seats_now →
-      AreGiven gives moments (moments_of messages) moments_now →
+      AreGiven gives moments (moments_of messages) moments_now → t.follows ledgers ledgers_now →
       (t.is_live ledgers_now → t.is_live ledgers) → t.follows ledgers_now ledgers_now →
       (t.is_live ledgers_now →
       TakeTurns messages (t.tenants ledgers) replies (t.tenants ledgers_now)) →
@@ -167,7 +167,7 @@ module _ {S C P : Type 0} (t : LedgersMeaning S) (gives : C → ℕ → C → Ty
       ServesEach (rules t gives renews waits does) (held (Whole ledgers) moments peers seats next)
       (held (Whole ledgers_now) moments_now peers_now seats_then next) count
   kept_and_put ledgers ledgers_now moments moments_now peers peers_now seats seats_now seats_then next
-      messages replies count same given lived stays turns found put =
+      messages replies count same given follows lived stays turns found put =
       let r = rules t gives renews waits does in
       let begun = Within ledgers_now (t.tenants ledgers) in
       then_each r (held (Whole ledgers) moments peers seats next)
@@ -178,7 +178,13 @@ module _ {S C P : Type 0} (t : LedgersMeaning S) (gives : C → ℕ → C → Ty
       (held begun moments peers seats_now next)
       (held (Whole ledgers_now) moments_now peers_now seats_then next) 0 count count (omega arith)
       (rests_all r (Whole ledgers) begun moments moments [] peers seats_now next
-      (record { lived = lived; same = λ live digest. refl; found = λ found may. may }) refl)
+      (record {
+        follows = follows;
+        lived = lived;
+        same = λ live digest. refl;
+        found = λ found may. may;
+      })
+      refl)
       (put ledgers_now (t.tenants ledgers) moments moments_now next stays found
       (record { given = given; turns = turns })))
 

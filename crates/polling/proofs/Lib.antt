@@ -6,6 +6,7 @@ pub mod OneLemmas
 pub mod ThenLemmas
 pub mod AllLemmas
 pub mod AttendLemmas
+mod CallLemmas
 pub mod SeatLemmas
 pub mod CloseLemmas
 pub mod ToldLemmas

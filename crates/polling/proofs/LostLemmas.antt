@@ -349,6 +349,7 @@ module _ {S C P : Type 0} (t : LedgersMeaning S) (gives : C → ℕ → C → Ty
             (λ (l : SeenAt S). HasFailed (seen t) l (events_of so.lives) (Whole ledgers_now))
             (sym keeps.ledgers)
             (record {
+              follows = lost.follows;
               lived = lost.lived;
               same = lost.same;
               found = λ found may.

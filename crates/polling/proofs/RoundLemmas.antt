@@ -340,6 +340,7 @@ module _ {S C P : Type 0} (t : LedgersMeaning S) (gives : C → ℕ → C → Ty
       (rests_all (rules t gives renews waits does) (Within ledgers so.0) (Whole ledgers) so.1 last
       (moments_of so_far.left) peers_now seats_now next
       (record {
+        follows = follows;
         lived = λ live. live;
         same = λ live digest.
             ap (λ (machines : Tenants). machines digest)

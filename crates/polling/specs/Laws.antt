@@ -8,7 +8,7 @@ use Rattle.clients.specs.Deeds.{HasYet, ReadsOn, machines_after, machines_then}
 use Rattle.polling.specs.Ending.{Ends, GivesTurns, Turns, most_turns}
 use Rattle.service.specs.Seen.{Whole}
 use Rattle.polling.specs.Standing.{Away, Debt, IsOwed, KeepsOnly}
-use Rattle.polling.specs.Serving.{Hall, hall, Terms, Occurs, Did, Fails, Proceeds, Begin, Then, tellings, rounds_in}
+use Rattle.polling.specs.Serving.{Hall, hall, Terms, Occurs, Did, Again, Fails, Proceeds, Begin, Then, tellings, rounds_in}
 use Rattle.polling.specs.Seating.{AreEmpty, Held, held_by, HoldsHall, ServesAll, replies_in}
 use Rattle.polling.specs.declared.seats.Seats.{Seats}
 
@@ -72,6 +72,34 @@ AreLives {S} {C} {P} r =
     → (serves : Proceeds S C P r first deeds last)
     → rounds_in serves ≡ 0
     → Lives S C r.means r.gives first.room deeds last.room
+
+module _ {S C P : Type 0} {r : Terms S C P} where
+  -- whatever a supervisor makes of the ledgers is a run of calls, and no opening
+  abbrev pub OpensNone :
+      {old new : Hall S C P} {deeds : List Act} → Occurs S C P r old deeds new → Type 0
+  OpensNone {old} (Again ledgers moments given asked renewed) =
+      r.means.follows old.room.ledgers ledgers
+  OpensNone happens = Unit {0}
+
+  abbrev pub OpenNone :
+      {first last : Hall S C P} {deeds : List Act} → Proceeds S C P r first deeds last → Type 0
+  OpenNone Begin = Unit {0}
+  OpenNone (Then deeds last more next serves happens) = OpenNone serves × OpensNone happens
+
+-- whatever else happens makes of the ledgers what calls make of them
+abbrev pub AreCalls : {S C P : Type 0} → Terms S C P → Type 0
+AreCalls {S} {C} {P} r =
+    (last next : Hall S C P) (more : List Act) (happens : Occurs S C P r last more next)
+    → OpensNone happens
+    → r.means.follows last.room.ledgers next.room.ledgers
+
+-- as long as a supervisor opens no ledgers, all that is done is one run of calls, and keeps what
+-- such a run keeps
+abbrev pub IsRunOfCalls : {S C P : Type 0} → Terms S C P → Type 0
+IsRunOfCalls {S} {C} {P} r =
+    (first last : Hall S C P) (deeds : List Act) (serves : Proceeds S C P r first deeds last)
+    → OpenNone serves
+    → r.means.follows first.room.ledgers last.room.ledgers
 
 -- a hall in which nobody has sent anything
 abbrev pub empty_hall : {S C P : Type 0} → S → C → P → Hall S C P

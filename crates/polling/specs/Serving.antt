@@ -123,6 +123,7 @@ IsFoundAgain t ledgers =
 
 -- ledgers of the same machines, which an opening finds again
 pub record AreAsBefore {S : Type 0} (t : LedgersMeaning S) (old new : S) : Type 0 where
+  pub follows : t.follows old new
   pub lived : t.is_live new → t.is_live old
   pub same : t.is_live new → KeepsAll (t.tenants old) (t.tenants new)
   pub found : IsFoundAgain t new
@@ -131,6 +132,7 @@ pub record AreAsBefore {S : Type 0} (t : LedgersMeaning S) (old new : S) : Type 
 -- what it might have found before, or what is as if the round was kept
 pub record FailedAs {S : Type 0} (t : LedgersMeaning S) (old : S) (IsKept : Tenants → Type 0)
     (new : S) : Type 0 where
+  pub follows : t.follows old new
   pub lived : t.is_live new → t.is_live old
   pub same : t.is_live new → KeepsAll (t.tenants old) (t.tenants new)
   pub found :

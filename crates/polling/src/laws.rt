@@ -1,6 +1,6 @@
 //! Laws of serving many clients. The functions do nothing; their contracts are the laws.
 ghost use Rattle.polling.specs.Courses.{IsCourse, CoursesServeEachAlone, BooksOnlyWhatIsAsked, MomentsRise};
-ghost use Rattle.polling.specs.Laws.{EachIsServed, AreLives, BeginsEmpty, GivesOn, ServingGoesOn, EndsTold};
+ghost use Rattle.polling.specs.Laws.{EachIsServed, AreCalls, AreLives, BeginsEmpty, GivesOn, IsRunOfCalls, ServingGoesOn, EndsTold};
 ghost use Rattle.polling.specs.Ring.{TurnsGoRound};
 ghost use Rattle.polling.specs.Serving.{rules};
 
@@ -22,6 +22,13 @@ pub fn each_is_served<L: Ledgers, H: Steward<L>, C: Moments, P: Peers>()
 /// deeds of the same ledgers.
 pub fn serving_is_a_run<L: Ledgers, H: Steward<L>, C: Moments, P: Peers>()
     ensures { AreLives (rules L.means C.gives H.renews H.waits P.does) }
+{}
+
+/// As long as the supervisor opens no ledgers, all that is done is one run of calls, rounds included.
+/// So ledgers that have failed stay so, and it keeps what each run of calls keeps.
+pub fn serving_is_a_run_of_calls<L: Ledgers, H: Steward<L>, C: Moments, P: Peers>()
+    ensures each { AreCalls (rules L.means C.gives H.renews H.waits P.does) }
+    ensures all { IsRunOfCalls (rules L.means C.gives H.renews H.waits P.does) }
 {}
 
 /// All that is done over live ledgers, whenever they are opened again and whatever an operator asks

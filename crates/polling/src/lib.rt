@@ -22,7 +22,8 @@ pub use batch::Batch;
 pub use finishing::write_rest;
 pub use laws::{
     each_is_served, moments_rise, only_what_is_asked_is_booked, serving_begins_empty,
-    serving_goes_on, serving_is_a_course, serving_is_a_run, turns_go_round,
+    serving_goes_on, serving_is_a_course, serving_is_a_run, serving_is_a_run_of_calls,
+    turns_go_round,
 };
 pub use peers::{Peers, Read, Told, Written};
 pub use seats::Seats;

@@ -21,7 +21,7 @@ use Rattle.whole_runs.specs.declared.steps.Answer.TheVariants as answer
 use Rattle.whole_runs.specs.Courses.{AreOfStep, HaveComeSince, Start, Anew, Onward}
 use Rattle.whole_runs.specs.Names.{NamesMeaning}
 use Rattle.whole_runs.specs.Reopenings.{StepMakes, HasNamed, HasRun, IsInOrder, IsAnswerTo, RefusesReopening}
-use Rattle.whole_runs.specs.Reopenings.{RunsThrough, Goes_on}
+use Rattle.whole_runs.specs.Reopenings.{RunsThrough, Goes_on, StaysFailed}
 use Rattle.whole_runs.proofs.NameLemmas.{named_more}
 
 -- behind a step there are its events
@@ -129,7 +129,7 @@ answers_more (s ∷ steps) (a ∷ answers) step answer all is =
     (all.0, answers_more steps answers step answer all.1 is)
 
 -- the step at an index is the next one
-take_step :
+pub take_step :
     (steps : List Step) (i : ℕ) (step : Step) → i < length steps → step ≡ get_or steps i step →
     take (i + 1) steps ≡ take i steps ++ step ∷ []
 take_step steps i step below is =
@@ -157,13 +157,13 @@ module _ {S : Type 0} (t : RunMeaning S) (n : NamesMeaning S) (Refuses : Refused
         (named_more t n Refuses old mid new (take i steps) answers named step answer makes)
 
     pub through_on :
-        RunsThrough t n Refuses old (take i steps) answers mid →
+        (Failed : S → Type 0) → RunsThrough t n Failed Refuses old (take i steps) answers mid →
         HasRun t old (take i steps) answers mid → HasNamed t n old (take i steps) answers mid →
-        StepMakes t n Refuses mid step answer new → IsInOrder t n new →
-        RunsThrough t n Refuses old (take (i + 1) steps) more new
-    through_on through run named makes settled =
+        StepMakes t n Refuses mid step answer new → StaysFailed Failed mid step new →
+        IsInOrder t n new → RunsThrough t n Failed Refuses old (take (i + 1) steps) more new
+    through_on Failed through run named makes failed settled =
         rw (take_step steps i step below is, grown)
-        (Goes_on (take i steps) answers mid step answer new through makes settled
+        (Goes_on (take i steps) answers mid step answer new through makes failed settled
         (step_more t n Refuses old mid new (take i steps) answers run step answer makes)
         (named_more t n Refuses old mid new (take i steps) answers named step answer makes))
 

@@ -7,11 +7,11 @@ use Rattle.sqlite_disk.specs.declared.Disk as disk
 use Rattle.sqlite_value.specs.Order.{Row}
 use Rattle.sqlite_trees.specs.Tree.{Trees}
 use Rattle.sqlite.specs.Effect.{Database}
-use Rattle.sqlite.specs.Files.{file_state}
 use Rattle.chain.specs.Backends.{in_use}
 use Rattle.ledger_sql.specs.TableRows.{with_name as rows_with_name}
 use Rattle.service.specs.Courses.{Ending, Done, Declined, Unavailable}
 use Rattle.service.specs.Openings.{run_meaning}
+use Rattle.openings.specs.OpenTables.{open_state}
 use Rattle.openings.specs.declared.refused.Refused.{Refused}
 use Rattle.stored_ledgers.specs.DueSets.{DueSets}
 use Rattle.stored_ledgers.specs.Ledger.{HoldsLedgers}
@@ -32,14 +32,14 @@ module _ {D : Type 0} {g : disk.Ghosts D} where
   -- while a store is open, an opening finds the names that are there
   pub finds_own : (store : Store D g) → IsSettledStore store → IsUsable store → IsLive store
       → (found : Names) → FindsNames store found → KeepsNames (names_of store) found
-  finds_own = finds_shown names_in names_at (λ conn. refl)
+  finds_own = finds_shown names_in names_at (λ tables. refl)
 
   stays_at : (ready : Bool) (sets : DueSets) (place : Place D g) → IsSettledAt place
       → IsUsableAt ready sets place → IsLiveAt place
       → (db : Trees) × may_find_at place db × (names_at place ≡ names_in db)
-  stays_at ready sets (at.Open conn) settled usable live = (
-    (file_state conn).now.trees,
-    subst (λ (db : Database). (file_state conn).may_leave db.trees)
+  stays_at ready sets (at.Open tables) settled usable live = (
+    (open_state tables).now.trees,
+    subst (λ (db : Database). (open_state tables).may_leave db.trees)
         (sym (usable.0 live).quiet.settled) (settled.stays live.1),
     refl,
   )
@@ -75,7 +75,7 @@ module _ {D : Type 0} {g : disk.Ghosts D} where
 
   live_at : (ready : Bool) (sets : DueSets) (place : Place D g) → ready ≡ true
       → IsUsableAt ready sets place → IsHonestAt place → IsLiveAt place
-  live_at ready sets (at.Open conn) answers usable clean = (clean, usable.1 answers clean)
+  live_at ready sets (at.Open tables) answers usable clean = (clean, usable.1 answers clean)
   live_at ready sets (at.Shut files) answers usable clean = absurd (both_ways ready usable answers)
 
   -- a change that was tried on a store, and what a crash in it may leave
@@ -92,8 +92,8 @@ module _ {D : Type 0} {g : disk.Ghosts D} where
     crash_at : (ready : Bool) (sets : DueSets) (place : Place D g) → IsUsableAt ready sets place
         → IsLiveAt place → (db : Trees) → OfDatabaseAt (λ was. After was db) place
         → Changes (names_at place) (names_in db)
-    crash_at ready sets (at.Open conn) usable live db after =
-        law (file_state conn).now db (usable.0 live).ledgers after
+    crash_at ready sets (at.Open tables) usable live db after =
+        law (open_state tables).now db (usable.0 live).ledgers after
     crash_at ready sets (at.Shut files) usable live db after = absurd live
 
     after_crash : (found : Names) (f : FindsNames new found) → old.ready ≡ true
@@ -150,7 +150,7 @@ module _ {D : Type 0} {g : disk.Ghosts D} where
   names_reopened old new (Ok done) settled usable finds honest left = record {
     member = λ live.
         let now = honest_at new.place live.0 in
-        opened_shown names_in names_at (λ conn. refl) old new.place (honest now) (finds now);
+        opened_shown names_in names_at (λ tables. refl) old new.place (honest now) (finds now);
     found = λ found f.
         let live = found_live_at (may_find old) new.place f.honest (finds f.honest) in
         ((live, usable), finds_own new settled usable live found f);

@@ -1,6 +1,7 @@
 mod Asked
 mod BookLemmas
 mod CourseLemmas
+mod FaultLemmas
 mod FoundNames
 mod NameCourseLemmas
 mod NameLemmas

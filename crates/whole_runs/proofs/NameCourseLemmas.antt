@@ -28,7 +28,7 @@ as_ended Unavailable is kept changed = elim is [
 ]
 
 -- the last of some
-last_of :
+pub last_of :
     {X : Type 0} (P : X → Type 0) (xs : List X) (x : X) → AllByRecursion P (xs ++ x ∷ []) →
     AllByRecursion P xs × P x
 last_of P [] x all = (tt, all.0)

@@ -5,11 +5,11 @@ use Rattle.std.proofs.lemmas.List.Sorted.{IsPermutation-sym, IsPermutation-trans
 use Rattle.sqlite_disk.specs.declared.Disk as disk
 use Rattle.sqlite_trees.specs.Tree.{Trees}
 use Rattle.sqlite.specs.Effect.{Database}
-use Rattle.sqlite.specs.Files.{file_state}
 use Rattle.records.specs.Machine.{Machine}
 use Rattle.stored_tables.specs.Holds.{HoldsMachine}
 use Rattle.stored_tables.specs.MachineOf.{machine_of}
 use Rattle.service.specs.Responds.{Isolates}
+use Rattle.openings.specs.OpenTables.{open_state}
 use Rattle.store.specs.declared.place.Place.{Place}
 use Rattle.store.specs.declared.place.Place.TheVariants as at
 use Rattle.store.specs.declared.store.Store.{Store}
@@ -119,11 +119,11 @@ module _ {D E : Type 0} {g : disk.Ghosts D} {h : disk.Ghosts E} (law : HeldMachi
       IsUsableAt ready sets place → IsUsableAt ready' sets' place' → IsLiveAt place →
       IsLiveAt place' → AgreeAt digest place place' →
       tenants_at place digest ≡ tenants_at place' digest
-  machine_at ready ready' sets sets' (at.Open conn) (at.Open conn') usable usable' live live'
+  machine_at ready ready' sets sets' (at.Open tables) (at.Open tables') usable usable' live live'
       agree =
-      tenant_same law digest (file_state conn).now (file_state conn').now (usable.0 live).ledgers
+      tenant_same law digest (open_state tables).now (open_state tables').now (usable.0 live).ledgers
       (usable'.0 live').ledgers agree
-  machine_at ready ready' sets sets' (at.Open conn) (at.Shut files) usable usable' live live'
+  machine_at ready ready' sets sets' (at.Open tables) (at.Shut files) usable usable' live live'
       agree = absurd live'
   machine_at ready ready' sets sets' (at.Shut files) place' usable usable' live live' agree =
       absurd live
@@ -133,10 +133,10 @@ module _ {D E : Type 0} {g : disk.Ghosts D} {h : disk.Ghosts E} (law : HeldMachi
       IsUsableAt ready sets place → IsUsableAt ready' sets' place' → IsLiveAt place →
       IsLiveAt place' → tenants_at place digest ≡ tenants_at place' digest →
       AgreeAt digest place place'
-  agree_at ready ready' sets sets' (at.Open conn) (at.Open conn') usable usable' live live' same =
-      agree_same law digest (file_state conn).now (file_state conn').now (usable.0 live).ledgers
+  agree_at ready ready' sets sets' (at.Open tables) (at.Open tables') usable usable' live live' same =
+      agree_same law digest (open_state tables).now (open_state tables').now (usable.0 live).ledgers
       (usable'.0 live').ledgers same
-  agree_at ready ready' sets sets' (at.Open conn) (at.Shut files) usable usable' live live' same =
+  agree_at ready ready' sets sets' (at.Open tables) (at.Shut files) usable usable' live live' same =
       absurd live'
   agree_at ready ready' sets sets' (at.Shut files) place' usable usable' live live' same =
       absurd live

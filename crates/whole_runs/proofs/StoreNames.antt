@@ -4,7 +4,6 @@ use Rattle.std.proofs.Common.{Ok, Err, refl, sym, ap, ◌∙◌}
 use Rattle.sqlite_disk.specs.declared.Disk as disk
 use Rattle.sqlite_value.specs.Order.{Row}
 use Rattle.sqlite.specs.Effect.{Database}
-use Rattle.sqlite.specs.Files.{file_state}
 use Rattle.ledger_sql.specs.TableRows.{with_name as rows_with_name}
 use Rattle.stored_ledgers.specs.Directory.{digest_in, first_digest, with_name}
 use Rattle.stored_ledgers.specs.DueSets.{DueSets}
@@ -18,6 +17,7 @@ use Rattle.stored_ledgers.specs.declared.joining.AddTenant.{AddTenant}
 use Rattle.stored_ledgers.specs.declared.joining.AddTenant.TheVariants as add
 use Rattle.stored_ledgers.specs.declared.keying.ChangeKey.{ChangeKey}
 use Rattle.stored_ledgers.specs.declared.keying.ChangeKey.TheVariants as key
+use Rattle.openings.specs.OpenTables.{open_state}
 use Rattle.store.specs.Names.{digest_named, names_at, names_of}
 use Rattle.store.specs.Stores.{Continues, IsLive, IsLiveAt}
 use Rattle.store.specs.Stores.{IsUsable, IsUsableAt, OfDatabases}
@@ -89,9 +89,9 @@ module _ {D : Type 0} {g : disk.Ghosts D} where
   kept_at : (old new : Place D g)
       → OfDatabaseAt (λ before. OfDatabaseAt (KeepsTables before) new) old
       → KeepsNames (names_at old) (names_at new)
-  kept_at (at.Open conn) (at.Open conn') same name =
+  kept_at (at.Open tables) (at.Open tables') same name =
       ap (λ (rows : List Row). first_named (rows_with_name name rows)) same.directory
-  kept_at (at.Open conn) (at.Shut files) same name = absurd same
+  kept_at (at.Open tables) (at.Shut files) same name = absurd same
   kept_at (at.Shut files) new same name = absurd same
 
   -- messages
@@ -106,9 +106,9 @@ module _ {D : Type 0} {g : disk.Ghosts D} where
       → (ready : Bool) (sets : DueSets) (old new : Place D g) → IsUsableAt ready sets old
       → IsLiveAt old → OfDatabaseAt (λ before. OfDatabaseAt (Told before) new) old
       → P (names_at old) (names_at new)
-  named_at P Told so ready sets (at.Open conn) (at.Open conn') usable live told =
-      so (file_state conn).now (file_state conn').now (usable.0 live).ledgers told
-  named_at P Told so ready sets (at.Open conn) (at.Shut files) usable live told = absurd told
+  named_at P Told so ready sets (at.Open tables) (at.Open tables') usable live told =
+      so (open_state tables).now (open_state tables').now (usable.0 live).ledgers told
+  named_at P Told so ready sets (at.Open tables) (at.Shut files) usable live told = absurd told
   named_at P Told so ready sets (at.Shut files) new usable live told = absurd told
 
   -- a tenant that joins

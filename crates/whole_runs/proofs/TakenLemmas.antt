@@ -2,9 +2,9 @@
 use Rattle.std.proofs.Common.{◌≡◌, ◌≢◌, ℕ, Bool, None, Result, List, [], subst}
 use Rattle.sqlite_disk.specs.declared.Disk as disk
 use Rattle.sqlite.specs.Effect.{Database}
-use Rattle.sqlite.specs.Files.{file_state}
 use Rattle.stored_ledgers.specs.Directory.{with_digest}
 use Rattle.stored_ledgers.specs.DueSets.{DueSets}
+use Rattle.openings.specs.OpenTables.{open_state}
 use Rattle.store.specs.NameLaws.{held}
 use Rattle.store.specs.Stores.{AnswersUnless, IsUsable, IsUsableAt, IsLive, IsLiveAt, OfDatabases, OfDatabaseAt}
 use Rattle.store.specs.Stores.{tenants_of, tenants_at}
@@ -19,10 +19,10 @@ module _ {D : Type 0} {g : disk.Ghosts D} where
       (ready : Bool) (sets : DueSets) (place place' : Place D g) → IsUsableAt ready sets place →
       IsLiveAt place → OfDatabaseAt (λ before. OfDatabaseAt (P before) place') place →
       tenants_at place digest ≢ None
-  held_at digest P tells ready sets (at.Open conn) (at.Open conn') usable live of =
-      held digest (file_state conn).now (usable.0 live).ledgers
-      (tells (file_state conn).now (file_state conn').now of)
-  held_at digest P tells ready sets (at.Open conn) (at.Shut files) usable live of = absurd of
+  held_at digest P tells ready sets (at.Open tables) (at.Open tables') usable live of =
+      held digest (open_state tables).now (usable.0 live).ledgers
+      (tells (open_state tables).now (open_state tables').now of)
+  held_at digest P tells ready sets (at.Open tables) (at.Shut files) usable live of = absurd of
   held_at digest P tells ready sets (at.Shut files) place' usable live of = absurd of
 
   -- where it is told of a change of which tenants there are, or of their keys

@@ -1,6 +1,7 @@
 -- What each step of a run promises of ledgers that can be opened again, and what a run does.
 use Rattle.std.specs.Prelude.{◌≡◌, ◌≢◌, ℕ, List, [], ◌∷◌, ◌++◌, None, Result, Ok, Err, Vec}
 use Rattle.std.specs.Prelude.{IsTrue}
+use Rattle.std.specs.List.{AllByRecursion}
 use Rattle.chain.specs.Ledgers.{AreValid, Tenants}
 use Rattle.ledger_http.specs.declared.reply.Reply.{Reply}
 use Rattle.service.specs.declared.turns.Message.{Message}
@@ -96,19 +97,44 @@ pub record EndsInOrder {S : Type 0} (t : RunMeaning S) (n : NamesMeaning S) (led
     pub settled : IsInOrder t n ledgers
     pub valid : t.is_live ledgers → AreValid (t.tenants ledgers)
 
+-- ledgers that have failed stay as they are, in each step but a reopening
+abbrev pub StaysFailed : {S : Type 0} → (S → Type 0) → S → Step → S → Type 0
+StaysFailed Failed old s new = Failed old → s ≢ step.Reopen → new ≡ old
+
 -- a run step by step: each step makes its ledgers of those before it, and the steps up to there
--- have run. At each moment the ledgers are in order.
-pub data RunsThrough {S : Type 0} (t : RunMeaning S) (n : NamesMeaning S)
+-- have run. At each moment the ledgers are in order. Once they have failed they stay so until they
+-- are opened again.
+pub data RunsThrough {S : Type 0} (t : RunMeaning S) (n : NamesMeaning S) (Failed : S → Type 0)
     (Refuses : Refused → S → S → Type 0) (old : S) : List Step → List Answer → S → Type 0 where
-  Begins : IsInOrder t n old → RunsThrough t n Refuses old [] [] old
+  Begins : IsInOrder t n old → RunsThrough t n Failed Refuses old [] [] old
   Goes_on :
       (steps : List Step) (answers : List Answer) (mid : S) (step : Step) (answer : Answer)
       (new : S) →
-      RunsThrough t n Refuses old steps answers mid →
-      StepMakes t n Refuses mid step answer new →
+      RunsThrough t n Failed Refuses old steps answers mid →
+      StepMakes t n Refuses mid step answer new → StaysFailed Failed mid step new →
       IsInOrder t n new → HasRun t old (steps ++ step ∷ []) (answers ++ answer ∷ []) new →
       HasNamed t n old (steps ++ step ∷ []) (answers ++ answer ∷ []) new →
-      RunsThrough t n Refuses old (steps ++ step ∷ []) (answers ++ answer ∷ []) new
+      RunsThrough t n Failed Refuses old (steps ++ step ∷ []) (answers ++ answer ∷ []) new
+
+-- none of the steps opens the ledgers again
+abbrev pub OpensNothing : List Step → Type 0
+OpensNothing steps = AllByRecursion (λ (s : Step). s ≢ step.Reopen) steps
+
+-- The law of faults. Steps have run up to a moment at which the ledgers have failed, and then more
+-- steps, none of which opens them again. What is there then, and what an opening may find, comes of
+-- a course of the steps up to that moment alone: of what came later nothing is found done. So it is
+-- with names.
+abbrev pub NothingLaterIsFound :
+    {S : Type 0} → RunMeaning S → NamesMeaning S → (S → Type 0) → (Refused → S → S → Type 0)
+    → Type 0
+NothingLaterIsFound {S} t n Failed Refuses =
+    (old mid new : S) (steps later : List Step) (answers told : List Answer)
+    → HasRun t old steps answers mid
+    → HasNamed t n old steps answers mid
+    → Failed mid
+    → RunsThrough t n Failed Refuses mid later told new
+    → OpensNothing later
+    → HasRun t old steps answers new × HasNamed t n old steps answers new
 
 -- an answer is one to its step; whatever the ledgers are, what is told before a tenant is looked up
 -- is told right, and that they are unavailable is told of a whole message alone

@@ -2,7 +2,6 @@
 use Rattle.std.specs.Prelude.{◌≡◌, ◌≢◌, ℕ, ℤ, List, Option, Some, None, IsPermutation}
 use Rattle.sqlite_disk.specs.declared.Disk as disk
 use Rattle.sqlite_trees.specs.Tree.{Trees}
-use Rattle.sqlite.specs.Files.{file_state}
 use Rattle.chain.specs.Backends.{in_use}
 use Rattle.chain.specs.Ledgers.{LedgersMeaning}
 use Rattle.ledger_http.specs.declared.reply.Reply.{Reply}
@@ -11,6 +10,7 @@ use Rattle.ledger_sql.specs.TableRows.{clock_rows, account_rows, transfer_rows, 
 use Rattle.ledger_sql.specs.TableRows.{status_rows, history_rows, failed_rows}
 use Rattle.service.specs.Replies.{unavailable}
 use Rattle.service.specs.Responds.{Responds, IsCaller}
+use Rattle.openings.specs.OpenTables.{open_state}
 use Rattle.store.specs.declared.place.Place.{Place}
 use Rattle.store.specs.declared.place.Place.TheVariants as at
 use Rattle.store.specs.declared.store.Store.{Store}
@@ -42,8 +42,8 @@ Agree digest trees trees' = AgreeAs (number_of digest trees) trees (number_of di
 -- two open stores do, on whatever disks
 abbrev pub AgreeAt :
     {D E : Type 0} {g : disk.Ghosts D} {h : disk.Ghosts E} → List ℕ → Place D g → Place E h → Type 0
-AgreeAt digest (at.Open conn) (at.Open conn') =
-    Agree digest (file_state conn).now.trees (file_state conn').now.trees
+AgreeAt digest (at.Open tables) (at.Open tables') =
+    Agree digest (open_state tables).now.trees (open_state tables').now.trees
 AgreeAt digest place place' = ⊥
 
 abbrev pub StoresAgree :

@@ -3,6 +3,7 @@ ghost use Rattle.service.specs.Following.{ToldStays};
 ghost use Rattle.service.specs.Retries.{RetriesAddNothing, StaysFailedOnceAsked};
 ghost use Rattle.whole_runs.specs.Courses.{RunsServeEachAlone};
 ghost use Rattle.whole_runs.specs.NameCourses.{DigestsStay, NamesStay};
+ghost use Rattle.whole_runs.specs.Reopenings.{NothingLaterIsFound};
 ghost use Rattle.whole_runs.specs.Retries.{HasAskedInRun, StaysFailedIn};
 ghost use Rattle.records.specs.Step.{account_rules, transfer_rules};
 ghost use Rattle.records.specs.declared.account_result.AccountResult.TheVariants as for_account;
@@ -23,6 +24,12 @@ pub fn runs_serve_each_alone()
 {
     each_tenant_sees_itself();
 }
+
+/// What is asked after a fault is never found done. Whatever the next opening finds comes of a course
+/// of the steps up to the fault alone. So it is with names.
+pub fn nothing_later_is_found<L: Reopening>()
+    ensures { NothingLaterIsFound L.means L.names L.has_failed L.refuses }
+{}
 
 /// A batch whose every event was accepted in the course of a run adds nothing when it is sent
 /// again, however often, whenever, and whatever any tenant did between, stops and reopenings

@@ -10,7 +10,10 @@ mod steps;
 mod stored;
 
 pub use isolation::stores_are_isolated;
-pub use laws::{names_stay, retries_add_nothing, runs_serve_each_alone, stays_failed, told_stays};
+pub use laws::{
+    names_stay, nothing_later_is_found, retries_add_nothing, runs_serve_each_alone, stays_failed,
+    told_stays,
+};
 pub use named_book::NamedBook;
 pub use reopening::Reopening;
 pub use runs::run_all;

@@ -104,6 +104,8 @@ impl Reopening for NamedBook {
       may_find = λ named found. KeepsNames (names_among named.names) found;
     } };
 
+    ghost has_failed = { λ named. ⊥ };
+
     ghost refuses = { λ refused old new. ⊥ };
 
     fn is_settled(&self) {}

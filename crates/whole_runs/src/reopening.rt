@@ -32,6 +32,9 @@ pub trait Reopening {
     // The digest of the tenant with each name, and which names an opening may find.
     ghost names: { NamesMeaning Self };
 
+    // They have failed: until they are opened again they stay as they are.
+    ghost has_failed: { Self → Type 0 };
+
     // An opening was refused so: for which fault, and what is known of the ledgers then.
     ghost refuses: { ARefusal → Self → Self → Type 0 };
 
@@ -44,7 +47,8 @@ pub trait Reopening {
     fn reply_to(&mut self, alloc: Global, bytes: &[u8], moment: u64) -> Reply
         ensures replies { Replies means self.old bytes.now moment result self.new }
         ensures early { RefusesEarly bytes.now result }
-        ensures named { LeavesNames means names self.old self.new };
+        ensures named { LeavesNames means names self.old self.new }
+        ensures failed { has_failed self.old → self.new ≡ self.old };
 
     /// The replies to messages, in order: they are answered in one round, and where that cannot be,
     /// one by one. Where memory lacks for the replies, nothing is done.
@@ -56,7 +60,8 @@ pub trait Reopening {
         ensures moves { IfOk result (λ replies.
             MovesInRound means self.old messages.now replies.items self.new) }
         ensures undone { OnErr result (self.new ≡ self.old) }
-        ensures named { LeavesNames means names self.old self.new };
+        ensures named { LeavesNames means names self.old self.new }
+        ensures failed { has_failed self.old → self.new ≡ self.old };
 
     /// Adds a tenant, whose machine is a new one. The name is looked up before the digest.
     fn join(&mut self, name: &TenantName, digest: &[u8; 32]) -> Result<(), AddTenant>
@@ -64,14 +69,16 @@ pub trait Reopening {
             (Tried (Joined digest.now) (ending_of result)) self.new }
         ensures taken { TellsTaken means self.old digest.now (result ≡ Err AddTenant.DigestTaken)
             self.new }
-        ensures named { IsJoinTried means names self.old name.now digest.now result self.new };
+        ensures named { IsJoinTried means names self.old name.now digest.now result self.new }
+        ensures failed { has_failed self.old → self.new ≡ self.old };
 
     /// Gives the tenant with this name the key of this digest, under which its machine stands from
     /// then on. The same key again changes nothing.
     fn change_key(&mut self, name: &TenantName, digest: &[u8; 32]) -> Result<(), ChangeKey>
         ensures moves { IsKeyTriedOf means names self.old name.now digest.now result self.new }
         ensures taken { TellsTaken means self.old digest.now (result ≡ Err ChangeKey.DigestTaken)
-            self.new };
+            self.new }
+        ensures failed { has_failed self.old → self.new ≡ self.old };
 
     /// Closes the ledgers and opens them again. After an error each call but a later opening
     /// answers that they are unavailable, and that opening finds what this one might have, where it

@@ -20,6 +20,7 @@ impl<D: Disk + Drop> Settles<InUse<Store<D>>> for Stores {
 }
 
 impl<D: Disk + Drop> Reopening for InUse<Store<D>> {
+    ghost use Rattle.std.specs.Prelude.{◌≡◌, false};
     ghost use Rattle.chain.specs.Backends.{in_use};
     ghost use Rattle.service.specs.Openings.{run_meaning};
     ghost use Rattle.store.specs.StoreLaws.{store_meaning, valid_tenants};
@@ -29,6 +30,8 @@ impl<D: Disk + Drop> Reopening for InUse<Store<D>> {
     ghost means = { run_meaning (in_use store_meaning) };
 
     ghost names = { store_names };
+
+    ghost has_failed = { λ store. store.ready ≡ false };
 
     ghost refuses = { λ refused old new. LeavesStore refused old new };
 

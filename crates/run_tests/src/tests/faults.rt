@@ -16,6 +16,11 @@ tenant 1 = added
 0@0 base = 0@1 0@2 0@3 0@4
 1@0 base = 0@1 0@2 0@3 0@4";
 
+/// What others ask for after a fault.
+const LATER: &str = "1@0 transfers 100 1 2 10 = unavailable 503 Service Unavailable
+tenant 2 = unavailable
+key 3 of 1 = unavailable";
+
 /// Which of the two files is on a disk that fails.
 #[derive(Clone, Copy)]
 enum Failing {
@@ -138,6 +143,46 @@ fn has_each_outcome<D: Faulty, R: Abort>(
         let got = became::<D, _>(rt, alloc, (failing, calls), &deed, (&before, &after))?;
         assert_eq!(rt; got, Some(want), "behind {calls} calls");
     }
+    Ok(())
+}
+
+/// Sends a deed among two tenants, whose disk fails in it, and then what others ask for.
+fn asked_after_a_fault<D: Disk + Drop>(
+    rt: &impl Abort,
+    alloc: Global,
+    store: &mut TestStore<D>,
+    deed: &Spelled,
+) -> Result<(), Fail> {
+    let told = told_among_two(rt, alloc, store, deed)?;
+    assert_eq!(rt; told, Told::Unavailable);
+    runs(rt, alloc, store, LATER, false)
+}
+
+/// What is found after a crash behind all that, and how the deed is answered then.
+fn found_later<D: Faulty, R: Abort>(
+    rt: &R,
+    alloc: Global,
+    calls: u64,
+    deed: &Spelled,
+) -> Result<(AllRows, Told), Fail> {
+    let mut store: TestStore<D> = new_store(alloc, calls, NEVER)?;
+    match asked_after_a_fault(rt, alloc, &mut store, deed) {
+        Ok(()) => found(alloc, store, deed),
+        Err(fail) => {
+            shut(store);
+            Err(fail)
+        }
+    }
+}
+
+#[test]
+fn nothing_asked_after_a_fault_is_found(rt: HostRuntime) -> Result<(), Fail> {
+    let alloc = rt.alloc();
+    let deed = CHAIN.spelled(alloc)?;
+    let (before, _after) = both::<TestDisk, _>(&rt, alloc, &deed)?;
+    let (rows, told) = found_later::<TestDisk, _>(&rt, alloc, 91, &deed)?;
+    assert!(rt; rows == before);
+    assert_eq!(rt; told, Told::Done);
     Ok(())
 }
 

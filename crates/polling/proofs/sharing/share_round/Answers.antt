@@ -31,7 +31,7 @@ returns-in-Ok g c = record {
       c.args.peers.now c.put_all.new.peers (seats_in c.args.clients.now)
       (seats_in c.copy_all-round.new.clients) (seats_in c.put_all.new.clients) next c.copy_all-round.result.messages.items
       c.in-Ok.replies.items c.put_all.result c.copy_all-round.ensures.same
-      c.copy_all-round.ensures.gathered.given
+      c.copy_all-round.ensures.gathered.given c.in_round-replies.ensures.follows
       (g.met.L.Ledgers.lived _ _ c.in_round-replies.ensures.follows)
       (g.met.L.Ledgers.stays c.in_round-replies.new.self)
       (λ live.
@@ -63,6 +63,7 @@ returns-in-Disk g c = record {
       c.tell_all.result c.copy_all-round.ensures.same c.copy_all-round.ensures.gathered.given
       (g.met.L.Ledgers.stays c.args.ledgers.now)
       (record {
+        follows = c.in_round-replies.ensures.follows;
         lived = g.met.L.Ledgers.lived _ _ c.in_round-replies.ensures.follows;
         same = rw c.in-Err.is at c.in_round-replies.ensures.same;
         found = λ found may.
@@ -94,7 +95,7 @@ returns g c = record {
       c.args.ledgers.now c.in_round-replies.new.self c.args.moments.now c.copy_all-round.new.moments
       c.args.peers.now (seats_in c.args.clients.now) (seats_in c.copy_all-round.new.clients) next
       c.copy_all-round.result.messages.items c.copy_all-round.ensures.same
-      c.copy_all-round.ensures.gathered.given
+      c.copy_all-round.ensures.gathered.given c.in_round-replies.ensures.follows
       (g.met.L.Ledgers.lived _ _ c.in_round-replies.ensures.follows)
       (rw c.in-Err.is at c.in_round-replies.ensures.same)
       (λ found may.

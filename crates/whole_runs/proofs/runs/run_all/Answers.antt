@@ -1,6 +1,7 @@
-use Rattle.std.proofs.Common.{ℕ, ◌+◌, ap, ◌∙◌, arith}
+use Rattle.std.proofs.Common.{ℕ, ◌+◌, ap, ◌∙◌, arith, refl}
 use Rattle.whole_runs.specs.Reopenings.{Begins}
 use Rattle.whole_runs.proofs.CourseLemmas.{none_yet, run_on, named_on, through_on, answered_on}
+use Rattle.whole_runs.proofs.FaultLemmas.{failed_on}
 use Rattle.whole_runs.proofs.NameLemmas.{none_named_yet}
 use Rattle.whole_runs.proofs.runs.run_all.Goals as goal
 
@@ -10,6 +11,7 @@ loop-step-init g c = record {
       rw c.in_ok-answers.ensures.items
       (none_yet g.L.Reopening.means c.args.ledgers.now live c.is_settled.ensures.machines);
   through = λ live. rw c.in_ok-answers.ensures.items (Begins c.is_settled.ensures);
+  failed = λ failed nothing. refl;
   named = λ live. rw c.in_ok-answers.ensures.items
       (none_named_yet g.L.Reopening.means g.L.Reopening.names c.args.ledgers.now live
       c.is_settled.ensures.names);
@@ -26,10 +28,13 @@ loop-step-preserved g c = record {
       c.push_reserved.ensures.items (c.loop-step.invariant.run live) c.run_step-answer.ensures.makes;
   through = λ live.
       through_on g.L.Reopening.means g.L.Reopening.names g.L.Reopening.refuses _ _ _ _ _ _ _ _ _
-      (omega arith) c.step-item.is c.push_reserved.ensures.items (c.loop-step.invariant.through live)
-      (c.loop-step.invariant.run live) (c.loop-step.invariant.named live)
-      c.run_step-answer.ensures.makes
-      c.is_settled-in-loop-step.ensures;
+      (omega arith) c.step-item.is c.push_reserved.ensures.items g.L.Reopening.has_failed
+      (c.loop-step.invariant.through live) (c.loop-step.invariant.run live)
+      (c.loop-step.invariant.named live) c.run_step-answer.ensures.makes
+      c.run_step-answer.ensures.failed c.is_settled-in-loop-step.ensures;
+  failed =
+      failed_on g.L.Reopening.has_failed _ _ _ _ _ _ (omega arith) c.step-item.is
+      c.loop-step.invariant.failed c.run_step-answer.ensures.failed;
   named = λ live.
       named_on g.L.Reopening.means g.L.Reopening.names g.L.Reopening.refuses _ _ _ _ _ _ _ _ _
       (omega arith) c.step-item.is c.push_reserved.ensures.items (c.loop-step.invariant.named live)

@@ -48,3 +48,7 @@ returns-clause-taken g c =
     rw (← c.self.view_is)
     (λ live. told_taken c.args.digest.now (HasKeyed c.args.name.now c.args.digest.now) (Err DigestTaken) (λ before after keyed. keyed.0.0)
     c.self.invariant c.change_key-keyed.ensures.answers c.change_key-keyed.ensures.told live.0)
+
+pub returns-clause-failed : goal.returns-clause-failed
+returns-clause-failed g c =
+    rw (← c.self.view_is) (λ shut. (c.change_key-keyed.ensures.answers.refuses shut).1)

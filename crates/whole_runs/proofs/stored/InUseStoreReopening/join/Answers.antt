@@ -46,3 +46,7 @@ returns-clause-named g c =
           c.add_tenant-joined.ensures.finds c.is_settled-2.ensures c.add_tenant-joined.ensures.answers ending_of refl
           (λ live. joins_go c.args.name.now c.args.digest.now _ _ c.add_tenant-joined.result (told live));
     })
+
+pub returns-clause-failed : goal.returns-clause-failed
+returns-clause-failed g c =
+    rw (← c.self.view_is) (λ shut. (c.add_tenant-joined.ensures.answers.refuses shut).1)

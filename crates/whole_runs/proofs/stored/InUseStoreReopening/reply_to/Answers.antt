@@ -19,3 +19,6 @@ returns-clause-replies g c =
 pub returns-clause-named : goal.returns-clause-named
 returns-clause-named g c =
     names_left c.args.self.now c.respond-reply.new.ledgers c.respond-reply.ensures.follows.0
+
+pub returns-clause-failed : goal.returns-clause-failed
+returns-clause-failed g c shut = c.respond-reply.ensures.follows.0.shut shut
