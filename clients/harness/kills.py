@@ -43,10 +43,19 @@ class Desk(threading.Thread):
         try:
             while not self.is_over.is_set():
                 again = self.batches and self.random.random() < 0.1
-                self.send(self.random.choice(self.batches) if again else self.draw(), not again)
+                events = self.random.choice(self.batches) if again else self.draw()
+                self.judge(events)
+                self.send(events, not again)
             self.driver.close()
         except BaseException as error:
             self.failure = error
+
+    def judge(self, events):
+        """Has a batch judged now and then. That books nothing, as the answer to the batch shows."""
+        if self.random.random() < 0.1:
+            given = self.driver.ask(call="lint_transfers", events=events)
+            if given.get("error", {}).get("kind") != "unanswered":
+                must(given == {"events": len(events)}, f"{events} are judged so: {given}")
 
     def send(self, events, is_new):
         while True:

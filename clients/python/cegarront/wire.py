@@ -72,10 +72,7 @@ def object_in(body: bytes) -> Dict[str, Any]:
 
 def events_in(body: bytes) -> int:
     """The number of events of a body that was judged."""
-    events = json.loads(body)["events"]
-    if not isinstance(events, int):
-        raise ValueError("the number of events is no number")
-    return events
+    return whole_in("events", object_in(body)["events"])
 
 
 def is_serving(body: bytes) -> bool:
@@ -93,14 +90,17 @@ def digits_in(told: object) -> int:
     return int(told)
 
 
-def number_in(told: Dict[str, Any], name: str) -> int:
-    """The number that a field of a reply has. Its range is looked at where the record is made."""
-    value = told[name]
-    if is_string(name):
-        return digits_in(value)
+def whole_in(name: str, value: object) -> int:
+    """The number that a field has as a JSON number. `ValueError` if it is none."""
     if isinstance(value, bool) or not isinstance(value, int):
         raise ValueError(f"{name}: {value!r}")
     return value
+
+
+def number_in(told: Dict[str, Any], name: str) -> int:
+    """The number that a field of a reply has. Its range is looked at where the record is made."""
+    value = told[name]
+    return digits_in(value) if is_string(name) else whole_in(name, value)
 
 
 def _numbers(kind: Any, told: Dict[str, Any]) -> Dict[str, Any]:

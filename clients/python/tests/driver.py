@@ -88,10 +88,11 @@ async def value_of(told):
 
 async def answer(ledger, asked):
     call = asked["call"]
-    if call in ("create_accounts", "create_transfers"):
-        kind = Account if call == "create_accounts" else Transfer
+    if "events" in asked:
+        kind = Account if call.endswith("accounts") else Transfer
         events = [record(kind, each) for each in asked["events"]]
-        return batch(await value_of(getattr(ledger, call)(events)), asked.get("all"))
+        told = await value_of(getattr(ledger, call)(events))
+        return {"events": told} if call.startswith("lint_") else batch(told, asked.get("all"))
     if call in ASKED:
         told = await value_of(getattr(ledger, call)(record(ASKED[call], asked["asked"])))
         if call.startswith("iter_"):

@@ -34,6 +34,13 @@ export declare class Ledger {
      */
     createTransfers(transfers: readonly TransferEvent[], options?: CallOptions): Promise<Results<TransferResultName>>;
     /**
+     * Has the service judge accounts as `createAccounts` sends them, and books nothing. Returns how many there
+     * are. The `detail` of a `Refused` says which field of which one is wrong.
+     */
+    lintAccounts(accounts: readonly AccountEvent[], options?: CallOptions): Promise<number>;
+    /** Has the service judge transfers as `createTransfers` sends them, and books nothing. */
+    lintTransfers(transfers: readonly TransferEvent[], options?: CallOptions): Promise<number>;
+    /**
      * The accounts that exist among at most 1,000 ids, in the order asked. Balances are those at the
      * ledger's clock: they include a hold that is due until the next batch, or until the service releases
      * it, within seconds.

@@ -1,11 +1,11 @@
 /** The routes of the service, as methods. */
 import { accountStands, chainsOf, idsToLookUp, mayStand, transferStands } from "./chains.js";
 import { BadReply, LedgerError, Refused } from "./errors.js";
-import { FilterFlag, MAX_EVENTS, QueryFlag } from "./records.js";
+import { allOf, allPages, limitOf, ofAccount } from "./pages.js";
+import { MAX_EVENTS } from "./records.js";
 import { Results, accountResults, transferResults } from "./results.js";
 import { Transport, detailIn, failureIn, refusalIn } from "./transport.js";
 import * as wire from "./wire.js";
-const BOTH_SIDES = FilterFlag.debits | FilterFlag.credits;
 const HEALTH_WITHIN = 10000;
 /**
  * A tenant's ledger, at an address and with the tenant's key (64 hexadecimal digits).
@@ -51,6 +51,17 @@ export class Ledger {
             const found = await this.#found("/transfers/lookup", ids, "transfers", wire.transferIn, until);
             return chain.every((each) => transferStands(each, found));
         });
+    }
+    /**
+     * Has the service judge accounts as `createAccounts` sends them, and books nothing. Returns how many there
+     * are. The `detail` of a `Refused` says which field of which one is wrong.
+     */
+    lintAccounts(accounts, options = {}) {
+        return this.#judged("/lint/accounts", accounts, options);
+    }
+    /** Has the service judge transfers as `createTransfers` sends them, and books nothing. */
+    lintTransfers(transfers, options = {}) {
+        return this.#judged("/lint/transfers", transfers, options);
     }
     /**
      * The accounts that exist among at most 1,000 ids, in the order asked. Balances are those at the
@@ -209,6 +220,11 @@ export class Ledger {
         }
         return found;
     }
+    async #judged(path, events, options) {
+        const message = { method: "POST", path, body: wire.eventsBody(events), isBatch: false };
+        const reply = await this.#transport.ask(message, this.#until(options));
+        return readBody(message, reply, (text) => wire.wholeIn(wire.objectIn(text).events));
+    }
     async #page(path, body, name, read, until) {
         const message = { method: "POST", path, body: body(), isBatch: false };
         const reply = await this.#transport.ask(message, until);
@@ -245,41 +261,5 @@ function readBody(message, reply, read) {
         if (!(error instanceof wire.Unreadable))
             throw error;
         throw new BadReply(`${message.path}: ${error.message}`, message.isBatch, { cause: error });
-    }
-}
-function limitOf(asked) {
-    return asked.limit ?? MAX_EVENTS;
-}
-function ofAccount(asked) {
-    return { ...asked, limit: limitOf(asked), flags: asked.flags ?? BOTH_SIDES };
-}
-/** The items of a page, and of those after it. */
-async function* allOf(asked, pageOf) {
-    for (;;) {
-        const { items } = await pageOf(asked);
-        yield* items;
-        if (items.length < limitOf(asked))
-            return;
-        const last = items[items.length - 1].timestamp;
-        if (((asked.flags ?? 0) & FilterFlag.newestFirst) === 0) {
-            asked = { ...asked, timestampMin: last + 1n };
-        }
-        else if (last > 1n) {
-            asked = { ...asked, timestampMax: last - 1n };
-        }
-        else {
-            return; // A bound of 0 would be none.
-        }
-    }
-}
-/** The items of a page, and of all pages after it. */
-async function* allPages(asked, pageOf) {
-    for (;;) {
-        const { items, next } = await pageOf(asked);
-        yield* items;
-        if (next === 0n)
-            return;
-        const isNewestFirst = ((asked.flags ?? 0) & QueryFlag.newestFirst) !== 0;
-        asked = { ...asked, [isNewestFirst ? "timestampMax" : "timestampMin"]: next };
     }
 }

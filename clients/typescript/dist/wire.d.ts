@@ -20,6 +20,8 @@ export declare function statementPath(accountId: bigint): string;
 export declare function objectIn(body: string): Json;
 /** The number in a string of decimal digits. */
 export declare function digitsIn(value: unknown): bigint;
+/** The whole number in a reply. */
+export declare function wholeIn(value: unknown): number;
 export declare function accountIn(told: Json): Account;
 export declare function transferIn(told: Json): Transfer;
 export declare function balanceIn(told: Json): Balance;

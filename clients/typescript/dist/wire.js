@@ -127,7 +127,8 @@ export function digitsIn(value) {
     }
     return BigInt(value);
 }
-function wholeIn(value) {
+/** The whole number in a reply. */
+export function wholeIn(value) {
     if (!Number.isSafeInteger(value))
         throw new Unreadable(`no whole number: ${String(value)}`);
     return value;

@@ -69,6 +69,7 @@ async function all(iterator) {
 
 async function answer(ledger, asked) {
   const call = camel(asked.call);
+  if (call.startsWith("lint")) return { events: await ledger[call](asked.events.map(record)) };
   if (asked.events) return batch(await ledger[call](asked.events.map(record)), asked.all);
   if (asked.ids) return page(await ledger[call](asked.ids.map(BigInt)));
   if (call === "statement") return { items: (await ledger.statement(BigInt(asked.account))).map(shown) };

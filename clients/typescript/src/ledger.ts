@@ -2,7 +2,8 @@
 
 import { accountStands, chainsOf, idsToLookUp, mayStand, transferStands } from "./chains.js";
 import { BadReply, LedgerError, Refused } from "./errors.js";
-import { FilterFlag, MAX_EVENTS, QueryFlag } from "./records.js";
+import { allOf, allPages, limitOf, ofAccount } from "./pages.js";
+import { MAX_EVENTS } from "./records.js";
 import type {
   Account,
   AccountEvent,
@@ -24,7 +25,6 @@ import { Transport, detailIn, failureIn, refusalIn } from "./transport.js";
 import type { Message, Reply, Until } from "./transport.js";
 import * as wire from "./wire.js";
 
-const BOTH_SIDES = FilterFlag.debits | FilterFlag.credits;
 const HEALTH_WITHIN = 10_000;
 
 export interface LedgerOptions {
@@ -93,6 +93,19 @@ export class Ledger {
       const found = await this.#found("/transfers/lookup", ids, "transfers", wire.transferIn, until);
       return chain.every((each) => transferStands(each, found));
     });
+  }
+
+  /**
+   * Has the service judge accounts as `createAccounts` sends them, and books nothing. Returns how many there
+   * are. The `detail` of a `Refused` says which field of which one is wrong.
+   */
+  lintAccounts(accounts: readonly AccountEvent[], options: CallOptions = {}): Promise<number> {
+    return this.#judged("/lint/accounts", accounts, options);
+  }
+
+  /** Has the service judge transfers as `createTransfers` sends them, and books nothing. */
+  lintTransfers(transfers: readonly TransferEvent[], options: CallOptions = {}): Promise<number> {
+    return this.#judged("/lint/transfers", transfers, options);
   }
 
   /**
@@ -279,6 +292,12 @@ export class Ledger {
     return found;
   }
 
+  async #judged(path: string, events: readonly object[], options: CallOptions): Promise<number> {
+    const message: Message = { method: "POST", path, body: wire.eventsBody(events), isBatch: false };
+    const reply = await this.#transport.ask(message, this.#until(options));
+    return readBody(message, reply, (text) => wire.wholeIn(wire.objectIn(text).events));
+  }
+
   async #page<T>(
     path: string,
     body: () => string,
@@ -327,47 +346,5 @@ function readBody<T>(message: Message, reply: Reply, read: (body: string) => T):
   } catch (error) {
     if (!(error instanceof wire.Unreadable)) throw error;
     throw new BadReply(`${message.path}: ${error.message}`, message.isBatch, { cause: error });
-  }
-}
-
-function limitOf(asked: PageFilter): number {
-  return asked.limit ?? MAX_EVENTS;
-}
-
-function ofAccount(asked: AccountFilter): AccountFilter & { limit: number; flags: number } {
-  return { ...asked, limit: limitOf(asked), flags: asked.flags ?? BOTH_SIDES };
-}
-
-/** The items of a page, and of those after it. */
-async function* allOf<T extends { timestamp: bigint }>(
-  asked: AccountFilter,
-  pageOf: (asked: AccountFilter) => Promise<Page<T>>,
-): AsyncGenerator<T, void, undefined> {
-  for (;;) {
-    const { items } = await pageOf(asked);
-    yield* items;
-    if (items.length < limitOf(asked)) return;
-    const last = items[items.length - 1].timestamp;
-    if (((asked.flags ?? 0) & FilterFlag.newestFirst) === 0) {
-      asked = { ...asked, timestampMin: last + 1n };
-    } else if (last > 1n) {
-      asked = { ...asked, timestampMax: last - 1n };
-    } else {
-      return; // A bound of 0 would be none.
-    }
-  }
-}
-
-/** The items of a page, and of all pages after it. */
-async function* allPages<T, Asked extends PageFilter>(
-  asked: Asked,
-  pageOf: (asked: Asked) => Promise<QueryPage<T>>,
-): AsyncGenerator<T, void, undefined> {
-  for (;;) {
-    const { items, next } = await pageOf(asked);
-    yield* items;
-    if (next === 0n) return;
-    const isNewestFirst = ((asked.flags ?? 0) & QueryFlag.newestFirst) !== 0;
-    asked = { ...asked, [isNewestFirst ? "timestampMax" : "timestampMin"]: next };
   }
 }

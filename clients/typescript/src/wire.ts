@@ -140,7 +140,8 @@ export function digitsIn(value: unknown): bigint {
   return BigInt(value);
 }
 
-function wholeIn(value: unknown): number {
+/** The whole number in a reply. */
+export function wholeIn(value: unknown): number {
   if (!Number.isSafeInteger(value)) throw new Unreadable(`no whole number: ${String(value)}`);
   return value as number;
 }

@@ -17,6 +17,10 @@ export async function book(ledger: Ledger): Promise<bigint> {
   await ledger.createTransfers([{ amount: 10n }]);
   // @ts-expect-error: a field that nobody knows
   await ledger.createTransfers([{ id: 1n, currency: "EUR" }]);
+  const judged: number = await ledger.lintTransfers([event]);
+  if (judged !== 1) return BigInt(judged);
+  // @ts-expect-error: a field that nobody knows is not judged either
+  await ledger.lintAccounts([{ id: 1n, ledger: 978, code: 1, currency: "EUR" }]);
   // @ts-expect-error: an account has a ledger and a code
   await ledger.createAccounts([{ id: 1n, flags: AccountFlag.history }]);
   // @ts-expect-error: a filter of an account names it

@@ -147,6 +147,17 @@ func batch[T any](ctx context.Context, r request,
 	return object{"clock": fmt.Sprint(results.Clock), "results": told}, err
 }
 
+// judged has events judged as a batch would send them.
+func judged[T any](ctx context.Context, r request,
+	lint func(context.Context, []T) (int, error)) (object, error) {
+	var events []T
+	if err := json.Unmarshal(r.Events, &events); err != nil {
+		return nil, fmt.Errorf("%w: %v", cegarront.ErrInvalid, err)
+	}
+	count, err := lint(ctx, events)
+	return object{"events": count}, err
+}
+
 func follow(ctx context.Context, l *cegarront.Ledger, r request) (object, error) {
 	pages, told := l.Follow(r.Number), []object{}
 	pages.Limit = r.Limit
@@ -163,6 +174,10 @@ func answer(ctx context.Context, l *cegarront.Ledger, r request) (object, error)
 		return batch(ctx, r, l.CreateAccounts)
 	case "create_transfers":
 		return batch(ctx, r, l.CreateTransfers)
+	case "lint_accounts":
+		return judged(ctx, r, l.LintAccounts)
+	case "lint_transfers":
+		return judged(ctx, r, l.LintTransfers)
 	case "lookup_accounts":
 		p, err := l.LookupAccounts(ctx, r.IDs)
 		return page(p, err, withBalance)

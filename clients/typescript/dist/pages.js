@@ -1,0 +1,39 @@
+/** Filters, and the pages that follow one another. */
+import { FilterFlag, MAX_EVENTS, QueryFlag } from "./records.js";
+const BOTH_SIDES = FilterFlag.debits | FilterFlag.credits;
+export function limitOf(asked) {
+    return asked.limit ?? MAX_EVENTS;
+}
+export function ofAccount(asked) {
+    return { ...asked, limit: limitOf(asked), flags: asked.flags ?? BOTH_SIDES };
+}
+/** The items of a page, and of those after it. */
+export async function* allOf(asked, pageOf) {
+    for (;;) {
+        const { items } = await pageOf(asked);
+        yield* items;
+        if (items.length < limitOf(asked))
+            return;
+        const last = items[items.length - 1].timestamp;
+        if (((asked.flags ?? 0) & FilterFlag.newestFirst) === 0) {
+            asked = { ...asked, timestampMin: last + 1n };
+        }
+        else if (last > 1n) {
+            asked = { ...asked, timestampMax: last - 1n };
+        }
+        else {
+            return; // A bound of 0 would be none.
+        }
+    }
+}
+/** The items of a page, and of all pages after it. */
+export async function* allPages(asked, pageOf) {
+    for (;;) {
+        const { items, next } = await pageOf(asked);
+        yield* items;
+        if (next === 0n)
+            return;
+        const isNewestFirst = ((asked.flags ?? 0) & QueryFlag.newestFirst) !== 0;
+        asked = { ...asked, [isNewestFirst ? "timestampMax" : "timestampMin"]: next };
+    }
+}
