@@ -38,7 +38,7 @@ PROCESSORS = len(os.sched_getaffinity(0))
 # The sample of the trials. The others take minutes each over a program that is some times slower, and
 # `chosen` is for a program of its own, which is proved: `make faults` tries them.
 TRIALS = """model runs queries many rounds between crowd limits reopened little paused killed full broken
-in_use no_text addresses desk stopped standby reader refused lint stream memory disk damaged soak""".split()
+marks in_use no_text addresses desk stopped standby reader refused lint stream memory disk damaged soak""".split()
 
 
 class Step:

@@ -82,7 +82,9 @@ def changes(house, kept):
     yield "no sums", lambda db: gone(db, "-sums")
     yield "no log", lambda db: gone(db, "-wal")
     yield "no log, no sums", lambda db: (gone(db, "-wal"), gone(db, "-sums"))
+    yield "no file", lambda db: gone(db, "")
     for share in (0, 1, 2, 3):
+        yield f"file cut {share}", lambda db, share=share: cut(db, "", share)
         yield f"log cut {share}", lambda db, share=share: cut(db, "-wal", share)
         yield f"sums cut {share}", lambda db, share=share: cut(db, "-sums", share)
     yield "no log, sums cut", lambda db: (gone(db, "-wal"), cut(db, "-sums", 1))

@@ -71,6 +71,7 @@ TRIALS = {
     "broken": broken.broken,
     "behind": behind.behind,
     "lost": lost.lost,
+    "marks": marked.sample,
     "marked": marked.marked,
     "in_use": use.in_use,
     "no_text": given.no_text,

@@ -2,6 +2,7 @@
 a reply is in it. Only then standard error says that it is written again."""
 
 import errno
+import itertools
 import os
 import shutil
 import subprocess
@@ -22,7 +23,8 @@ REASONS = (errno.EIO, errno.ENOSPC, errno.EACCES)
 
 def marked(trial):
     """All that may be wrong with FILE-sums alone."""
-    refused = refused_calls(trial)
+    refused = refused_calls(trial, places)
+    want(refused > 20, f"no more than {refused} calls on FILE-sums")
     told = [f"{refused} calls on FILE-sums refused", f"{came_later(trial)} things in its place"]
     told.append(f"{owned_otherwise(trial)} owners and modes" if os.geteuid() == 0 else
                 "no owners, since this is not root")
@@ -30,6 +32,13 @@ def marked(trial):
     told.append(f"{renewed(trial)} marks in a FILE-sums that was made anew"
                 if trial.is_long else "none so long that it is made anew")
     return ", ".join(told) + ": batches were answered, and then it had the latest clock"
+
+
+def sample(trial):
+    """A few of these calls, and a folder in its place: seconds of what `marked` does."""
+    refused = refused_calls(trial, lambda trial: trial.random.sample(range(7), 2))
+    want(refused == 8, f"{refused} of 8 calls on FILE-sums refused")
+    return f"{refused} calls on FILE-sums refused, {came_later(trial, 1)} thing in its place"
 
 
 def batches(house, many=2):
@@ -65,9 +74,9 @@ def is_noticed(trial, house):
     shutil.rmtree(os.path.dirname(db))
 
 
-def refused_calls(trial):
-    """Each call on FILE-sums fails, alone or with all after it, from the start of a service to its stop.
-    It is there, or is still to be made."""
+def refused_calls(trial, places):
+    """Calls on FILE-sums fail, alone or with all after it, from the start of a service to its stop. It is
+    there, or is still to be made."""
     house, control = House(trial.fresh()), Control(trial.folder)
     house.begin(control.env)
     house.stop()
@@ -81,7 +90,6 @@ def refused_calls(trial):
                     break
                 refused += 1
                 trial.progress(f"{refused} calls on FILE-sums refused")
-    want(refused > 20, f"no more than {refused} calls on FILE-sums")
     check(house.program, house.db)
     return refused
 
@@ -123,12 +131,12 @@ def things(sums):
     yield "a folder in the place of what it is made in", part, lambda: os.rmdir(f"{sums}.part")
 
 
-def came_later(trial):
+def came_later(trial, most=2):
     """Something stands in its place, and is taken away while the ledger is served."""
     house, many = House(trial.fresh()), 0
     house.begin()
     house.stop()
-    for name, put, take_away in things(f"{house.db}-sums"):
+    for name, put, take_away in itertools.islice(things(f"{house.db}-sums"), most):
         for ends in (lambda: end(house, True), lambda: end(house, False)):
             gone(house.db, "-sums")
             put()
