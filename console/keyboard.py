@@ -22,7 +22,7 @@ def tab_to(browser, wanted, held=None):
     for _ in range(90):
         browser.press("Tab", held=held)
         if not browser.run(IS_SEEN):
-            raise Failed(f"the focus on {browser.run(FOCUSED)} is not seen")
+            raise Failed(f"on the way to {wanted} the focus on {browser.run(FOCUSED)} is not seen")
         if browser.run(FOCUSED) == wanted:
             return
     raise Failed(f"Tab does not come to {wanted}")

@@ -222,6 +222,8 @@ def main():
     parser.add_argument("--served", action="store_true")
     parser.add_argument("--only", nargs="+", default=[])
     arguments = parser.parse_args()
+    if arguments.pictures:
+        arguments.pictures.mkdir(parents=True, exist_ok=True)
     with tempfile.TemporaryFile() as log:
         for book, trials, moment in LEDGERS:
             try_ledger(arguments, log, book, trials, moment)
